@@ -1,0 +1,9 @@
+pub mod Machine
+pub mod Unique
+pub mod Sizes
+pub mod Drawings
+pub mod Keeping
+pub mod Verdicts
+pub mod Passing
+pub mod Stands
+pub mod Shown

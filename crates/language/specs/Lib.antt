@@ -1,0 +1,7 @@
+pub mod Grammar
+pub mod Graphs
+pub mod Names
+pub mod Rules
+pub mod Expected
+pub mod Laws
+pub mod Examples

@@ -1,0 +1,160 @@
+-- Steps of the loops of the word reader.
+use mathlib.Core.Path.{_≡_, refl, sym, ap, _∙_}
+use mathlib.Core.Bool.{Bool, true, false, cond, not, _||_}
+use mathlib.Core.List.{List, [], _∷_, _++_}
+use Prim.Native.Nat.{ℕ, zero, suc, _≤_, _<_, _+_, _*_, _-_, _^_, min}
+use native.Mathlib.Omega.{arith}
+use lib.ListN.{length, drop, take, getD}
+use lib.Dec.{eqb}
+use Rattle.std.proofs.shelf.Lists.{drop-more, drop-all}
+use Rattle.std.proofs.shelf.Tests.{cond-true, cond-false, eq-eqb, ne-eqb, and-from, or-left}
+use Rattle.words.specs.Words.{run, gap, skipped, commenting, behind, onward, value, same, begins, Spelling, Part, letter, digit, inner, letters-next, digits-next, part, symbol-part, symbols, reserved-in, symbol-in}
+use Rattle.words.specs.Words.Next.{end}
+use Rattle.refusal.specs.declared.Place.{Place}
+use Rattle.std.proofs.shelf.Equals.{compares-decides}
+use Rattle.std.specs.Orderings.{Decides}
+use Rattle.std.specs.declared.option.Option.the-variants.{Some, None}
+
+pub run-more : (f : ℕ → Bool) (bs : List ℕ) (n : ℕ) → n < length bs → f (getD bs n 0) ≡ true → length (run f (drop n bs)) ≡ suc (length (run f (drop (n + 1) bs)))
+run-more f bs n h e =
+    ap (λ (z : List ℕ). length (run f z)) (drop-more bs n 0 h) ∙
+    ap (λ (b : Bool). length (cond b (getD bs n 0 ∷ run f (drop (n + 1) bs)) [])) e
+
+pub run-stop : (f : ℕ → Bool) (bs : List ℕ) (n : ℕ) → n < length bs → f (getD bs n 0) ≡ false → length (run f (drop n bs)) ≡ 0
+run-stop f bs n h e =
+    ap (λ (z : List ℕ). length (run f z)) (drop-more bs n 0 h) ∙
+    ap (λ (b : Bool). length (cond b (getD bs n 0 ∷ run f (drop (n + 1) bs)) [])) e
+
+pub run-end : (f : ℕ → Bool) (bs : List ℕ) (n : ℕ) → length bs ≤ n → length (run f (drop n bs)) ≡ 0
+run-end f bs n h = ap (λ (z : List ℕ). length (run f z)) (drop-all n bs h)
+
+pub gap-more : (c : Bool) (bs : List ℕ) (n : ℕ) → n < length bs → skipped c (getD bs n 0) ≡ true →
+    length (gap c (drop n bs)) ≡ suc (length (gap (commenting c (getD bs n 0)) (drop (n + 1) bs)))
+gap-more c bs n h e =
+    ap (λ (z : List ℕ). length (gap c z)) (drop-more bs n 0 h) ∙
+    ap (λ (b : Bool). length (cond b (getD bs n 0 ∷ gap (commenting c (getD bs n 0)) (drop (n + 1) bs)) [])) e
+
+pub gap-stop : (c : Bool) (bs : List ℕ) (n : ℕ) → n < length bs → skipped c (getD bs n 0) ≡ false → length (gap c (drop n bs)) ≡ 0
+gap-stop c bs n h e =
+    ap (λ (z : List ℕ). length (gap c z)) (drop-more bs n 0 h) ∙
+    ap (λ (b : Bool). length (cond b (getD bs n 0 ∷ gap (commenting c (getD bs n 0)) (drop (n + 1) bs)) [])) e
+
+pub gap-end : (c : Bool) (bs : List ℕ) (n : ℕ) → length bs ≤ n → length (gap c (drop n bs)) ≡ 0
+gap-end c bs n h = ap (λ (z : List ℕ). length (gap c z)) (drop-all n bs h)
+
+pub behind-more : (bs : List ℕ) (p : Place) (n : ℕ) → n < length bs → behind (drop n bs) p ≡ behind (drop (n + 1) bs) (onward (getD bs n 0) p)
+behind-more bs p n h = ap (λ (z : List ℕ). behind z p) (drop-more bs n 0 h)
+
+pub behind-all : (bs : List ℕ) (p : Place) (n : ℕ) → length bs ≤ n → behind (drop n bs) p ≡ p
+behind-all bs p n h = ap (λ (z : List ℕ). behind z p) (drop-all n bs h)
+
+pub value-more : (ds : List ℕ) (m n : ℕ) → n < length ds → value m (drop n ds) ≡ value (m * 10 + (getD ds n 0 - 48)) (drop (n + 1) ds)
+value-more ds m n h = ap (value m) (drop-more ds n 0 h)
+
+pub value-all : (ds : List ℕ) (m n : ℕ) → length ds ≤ n → value m (drop n ds) ≡ m
+value-all ds m n h = ap (value m) (drop-all n ds h)
+
+pub value-grows : (ds : List ℕ) (m : ℕ) → m ≤ value m ds
+value-grows [] m = omega arith
+value-grows (d ∷ ds) m = let h = value-grows ds (m * 10 + (d - 48)) in omega arith
+
+-- the place after n bytes of bs, from p on
+abbrev pub Placed : List ℕ → Place → ℕ → ℕ → ℕ → Type 0
+Placed bs p n l c = (behind bs p ≡ behind (drop n bs) (record { line = l; column = c })) × (l ≤ p .line + n) × (c ≤ p .column + n + 1)
+
+pub place-line : (bs : List ℕ) (p : Place) (n l c l₂ c₂ : ℕ) → n < length bs → Placed bs p n l c → getD bs n 0 ≡ 10 → l₂ ≡ l + 1 → c₂ ≡ 1 → Placed bs p (n + 1) l₂ c₂
+place-line bs p n l c l₂ c₂ h i e f g =
+    let at : Place = record { line = l; column = c } in
+    let o : onward (getD bs n 0) at ≡ record { line = l + 1; column = 1 } = cond-true (eqb (getD bs n 0) 10) _ _ (eq-eqb (getD bs n 0) 10 e) in
+    let q : _≡_ {A = Place} (record { line = l + 1; column = 1 }) (record { line = l₂; column = c₂ }) = λ j. record { line = sym f j; column = sym g j } in
+    let x = i .1 in
+    (i .0 ∙ behind-more bs at n h ∙ ap (behind (drop (n + 1) bs)) (o ∙ q), omega arith, omega arith)
+
+pub place-column : (bs : List ℕ) (p : Place) (n l c l₂ c₂ : ℕ) → n < length bs → Placed bs p n l c → (getD bs n 0 ≡ 10 → ⊥) → l₂ ≡ l → c₂ ≡ c + 1 → Placed bs p (n + 1) l₂ c₂
+place-column bs p n l c l₂ c₂ h i e f g =
+    let at : Place = record { line = l; column = c } in
+    let o : onward (getD bs n 0) at ≡ record { line = l; column = c + 1 } = cond-false (eqb (getD bs n 0) 10) _ _ (ne-eqb (getD bs n 0) 10 e) in
+    let q : _≡_ {A = Place} (record { line = l; column = c + 1 }) (record { line = l₂; column = c₂ }) = λ j. record { line = sym f j; column = sym g j } in
+    let x = i .1 in
+    let y = i .2 in
+    (i .0 ∙ behind-more bs at n h ∙ ap (behind (drop (n + 1) bs)) (o ∙ q), omega arith, omega arith)
+
+pub both-ways : (r b : Bool) → (r ≡ true → b ≡ true) → (b ≡ true → r ≡ true) → r ≡ b
+both-ways true b f g = sym (f refl)
+both-ways false true f g = g refl
+both-ways false false f g = refl
+
+pub begins-append : (xs rest : List ℕ) → begins xs (xs ++ rest) ≡ true
+begins-append [] rest = refl
+begins-append (x ∷ xs) rest = and-from (eqb x x) (begins xs (xs ++ rest)) (eq-eqb x x refl) (begins-append xs rest)
+
+pub res-here : (s : Spelling) (l : List Spelling) (bs : List ℕ) → same (s .bytes) bs ≡ true → reserved-in (s ∷ l) bs ≡ Some (s .mark)
+res-here s l bs e = cond-true (same (s .bytes) bs) _ _ e
+
+pub res-skip : (s : Spelling) (l : List Spelling) (bs : List ℕ) → same (s .bytes) bs ≡ false → reserved-in (s ∷ l) bs ≡ reserved-in l bs
+res-skip s l bs e = cond-false (same (s .bytes) bs) _ _ e
+
+pub sym-here : (s : Spelling) (l : List Spelling) (bs : List ℕ) → begins (s .bytes) bs ≡ true → symbol-in (s ∷ l) bs ≡ Some s
+sym-here s l bs e = cond-true (begins (s .bytes) bs) _ _ e
+
+pub sym-skip : (s : Spelling) (l : List Spelling) (bs : List ℕ) → begins (s .bytes) bs ≡ false → symbol-in (s ∷ l) bs ≡ symbol-in l bs
+sym-skip s l bs e = cond-false (begins (s .bytes) bs) _ _ e
+
+pub same-decides : (xs ys : List ℕ) → Decides (same xs ys) (xs ≡ ys)
+same-decides = compares-decides same (record { empty = refl; shorter = λ y ys. refl; longer = λ x xs. refl; heads = λ x y xs ys. refl })
+
+abbrev pub Counted : List ℕ → ℕ → ℕ → Type 0
+Counted ds i n = (n ≤ 2147483647 → value 0 ds ≡ value n (drop i ds)) × (2147483647 < n → 2147483647 < value 0 ds) × (n < 30000000000)
+
+pub count-on : (ds : List ℕ) (i n m : ℕ) → i < length ds → Counted ds i n → n ≤ 2147483647 → getD ds i 0 < 256 → m ≡ n * 10 + (getD ds i 0 - 48) → Counted ds (i + 1) m
+count-on ds i n m h c l b e =
+    let v : value 0 ds ≡ value m (drop (i + 1) ds) = c .0 l ∙ value-more ds n i h ∙ ap (λ (z : ℕ). value z (drop (i + 1) ds)) (sym e) in
+    let g = value-grows (drop (i + 1) ds) m in
+    ((λ _. v), (λ k. omega arith), omega arith)
+
+pub count-past : (ds : List ℕ) (i n m : ℕ) → Counted ds i n → 2147483647 < n → m ≡ n → Counted ds (i + 1) m
+count-past ds i n m c l e = let x = c .1 l in let y = c .2 in ((λ k. absurd (omega arith)), (λ k. x), omega arith)
+
+-- parts by their first byte
+pub run-short : (f : ℕ → Bool) (bs : List ℕ) → length (run f bs) ≤ length bs
+run-short f [] = omega arith
+run-short f (b ∷ bs) = go (f b) (run-short f bs)
+  where
+    go : (t : Bool) → length (run f bs) ≤ length bs → length (cond t (b ∷ run f bs) []) ≤ suc (length bs)
+    go true h = omega arith
+    go false h = omega arith
+
+pub run-take : (f : ℕ → Bool) (bs : List ℕ) → take (length (run f bs)) bs ≡ run f bs
+run-take f [] = refl
+run-take f (b ∷ bs) = go (f b) (run-take f bs)
+  where
+    go : (t : Bool) → take (length (run f bs)) bs ≡ run f bs → take (length (cond t (b ∷ run f bs) [])) (b ∷ bs) ≡ cond t (b ∷ run f bs) []
+    go true h = ap (λ (z : List ℕ). b ∷ z) h
+    go false h = refl
+
+pub part-empty : (bs : List ℕ) (p : Place) → length bs ≡ 0 → part bs p ≡ record { bytes = []; next = end p }
+part-empty [] p h = refl
+part-empty (b ∷ bs) p h = absurd (omega arith)
+
+lettered : List ℕ → Place → Part
+lettered bs p = record { bytes = bs; next = letters-next bs p }
+
+numbered : List ℕ → Place → Part
+numbered bs p = record { bytes = bs; next = digits-next bs p }
+
+pub part-letter : (bs : List ℕ) (p : Place) → 0 < length bs → letter (getD bs 0 0) ≡ true → part bs p ≡ record { bytes = run inner bs; next = letters-next (run inner bs) p }
+unfolding lettered
+part-letter [] p h e = absurd (omega arith)
+part-letter (b ∷ bs) p h e =
+    let i : inner b ≡ true = or-left (letter b || digit b) (eqb b 95) (or-left (letter b) (digit b) e) in
+    cond-true (letter b) _ _ e ∙ ap (λ (z : List ℕ). lettered z p) (sym (cond-true (inner b) (b ∷ run inner bs) [] i))
+
+pub part-digit : (bs : List ℕ) (p : Place) → 0 < length bs → letter (getD bs 0 0) ≡ false → digit (getD bs 0 0) ≡ true → part bs p ≡ record { bytes = run digit bs; next = digits-next (run digit bs) p }
+unfolding numbered
+part-digit [] p h e f = absurd (omega arith)
+part-digit (b ∷ bs) p h e f =
+    cond-false (letter b) _ _ e ∙ cond-true (digit b) _ _ f ∙ ap (λ (z : List ℕ). numbered z p) (sym (cond-true (digit b) (b ∷ run digit bs) [] f))
+
+pub part-symbol : (bs : List ℕ) (p : Place) → 0 < length bs → letter (getD bs 0 0) ≡ false → digit (getD bs 0 0) ≡ false → part bs p ≡ symbol-part (symbol-in symbols bs) (getD bs 0 0) p
+part-symbol [] p h e f = absurd (omega arith)
+part-symbol (b ∷ bs) p h e f = cond-false (letter b) _ _ e ∙ cond-false (digit b) _ _ f
