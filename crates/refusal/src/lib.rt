@@ -68,7 +68,8 @@ impl Reason {
         ensures { λ r. ⌜ r ≡ layer-of self ⌝ }
     {
         match self {
-            Reason::ScriptTooLong | Reason::NoWord | Reason::NumberTooLarge | Reason::NameTooLong => Layer::Words,
+            Reason::ScriptTooLong | Reason::NoWord | Reason::NumberTooLarge | Reason::NameTooLong =>
+                Layer::Words,
             Reason::Unexpected | Reason::TooDeep => Layer::Sentence,
             Reason::DeclaredBefore
             | Reason::Undeclared

@@ -14,8 +14,8 @@ ghost-self c =
     let n = c .part-of-n .result .1 in
     let text = take (length bs - g) (drop g bs) in
     let s = goes bs p (c .part-of-n .result .0) g n (c .place-behind-place .result) (c .place-behind-behind .result)
-        text (take (length text - n) (drop n text)) (take-rest bs g) (take-rest text n) room
-        (c .gap-length-skipped .ensures .0) (c .place-behind-place .ensures) (c .part-of-n .ensures) (c .place-behind-behind .ensures) in
+    text (take (length text - n) (drop n text)) (take-rest bs g) (take-rest text n) room
+    (c .gap-length-skipped .ensures .0) (c .place-behind-place .ensures) (c .part-of-n .ensures) (c .place-behind-behind .ensures) in
     let k = room-kept bs p (c .part-of-n .result .0) (take (length text - n) (drop n text)) (c .place-behind-behind .result) s room in
     (k .0, (k .1, tt))
 
@@ -29,6 +29,6 @@ returns c =
     let text = take (length bs - g) (drop g bs) in
     let rest = take (length text - n) (drop n text) in
     let s = goes bs p (c .part-of-n .result .0) g n (c .place-behind-place .result) (c .place-behind-behind .result)
-        text rest (take-rest bs g) (take-rest text n) room
-        (c .gap-length-skipped .ensures .0) (c .place-behind-place .ensures) (c .part-of-n .ensures) (c .place-behind-behind .ensures) in
+    text rest (take-rest bs g) (take-rest text n) room
+    (c .gap-length-skipped .ensures .0) (c .place-behind-place .ensures) (c .part-of-n .ensures) (c .place-behind-behind .ensures) in
     record { goes = s; words = goes-text bs p (c .part-of-n .result .0) rest (c .place-behind-behind .result) s; laws = words-stand }

@@ -1,0 +1,37 @@
+// Reads a script in one pass: words in, graph out.
+use refusal::Reason;
+use refusal::Refusal;
+use std::alloc::Global;
+
+mod condition;
+mod declarations;
+mod drawing;
+pub mod graph;
+mod names;
+mod sentence;
+mod side;
+mod statements;
+
+use drawing::Drawing;
+use graph::Graph;
+use sentence::Sentence;
+
+// A script has at most this many bytes.
+pub const MOST_BYTES: usize = 8192;
+
+// The graph of a script, or why and where the text is none.
+pub fn read(heap: Global, script: &[u8]) -> Result<Graph, Refusal> {
+    if script.len() > MOST_BYTES {
+        return Err(Refusal {
+            reason: Reason::ScriptTooLong,
+            place: None,
+        });
+    }
+    let mut sentence = Sentence::new(script);
+    let names = declarations::read_declarations(heap, &mut sentence)?;
+    let mut drawing = Drawing::new(heap);
+    statements::read_statements(&mut sentence, &names, &mut drawing, 8)?;
+    sentence.end()?;
+    drawing.within_limit()?;
+    graph::finish(heap, names, drawing)
+}

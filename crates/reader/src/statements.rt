@@ -1,0 +1,155 @@
+// Statements go straight into the drawing.
+use crate::condition::read_condition;
+use crate::drawing::Drawing;
+use crate::names::Names;
+use crate::sentence::Sentence;
+use crate::side::Side;
+use crate::side::read_side;
+use language::Action;
+use language::Range;
+use language::Source;
+use refusal::Place;
+use refusal::Reason;
+use refusal::Refusal;
+use words::Mark;
+
+// Takes statements up to a word that begins none. Blocks may nest so many levels deeper.
+pub fn read_statements(
+    s: &mut Sentence,
+    names: &Names,
+    d: &mut Drawing,
+    levels: u8,
+) -> Result<(), Refusal> {
+    while s.at_name() || s.at(Mark::If) || s.at(Mark::While) {
+        read_statement(s, names, d, levels)?;
+    }
+    Ok(())
+}
+
+fn read_statement(
+    s: &mut Sentence,
+    names: &Names,
+    d: &mut Drawing,
+    levels: u8,
+) -> Result<(), Refusal> {
+    if s.at(Mark::If) {
+        read_choice(s, names, d, levels)
+    } else if s.at(Mark::While) {
+        read_repetition(s, names, d, levels)
+    } else {
+        read_assignment(s, names, d)
+    }
+}
+
+// Takes name := side ;
+fn read_assignment(s: &mut Sentence, names: &Names, d: &mut Drawing) -> Result<(), Refusal> {
+    let (name, place) = s.name()?;
+    let k = names.variable(name, place)?;
+    let _ = s.mark(Mark::Becomes)?;
+    let right = read_side(s, names)?;
+    let _ = s.mark(Mark::Semicolon)?;
+    assign(names, d, place, k, right)
+}
+
+// Draws the assignment of a right side.
+fn assign(
+    names: &Names,
+    d: &mut Drawing,
+    place: Place,
+    k: usize,
+    right: Side,
+) -> Result<(), Refusal> {
+    match right {
+        Side::Constant(c) => d.onward(
+            Action::Any(k, Range { low: c, high: c }, Source::Written),
+            place,
+        ),
+        Side::Shifted(i, c) => d.onward(Action::Shift(k, i, c), place),
+        Side::Negated(i) => d.onward(Action::Negate(k, i), place),
+        Side::Any(source, range) => d.onward(Action::Any(k, range, source), place),
+        Side::Reading(table, index, at) => look_up(names, d, place, k, table, index, at),
+    }
+}
+
+// Draws a table read: index at least 0, index at most size - 1, then any of the table's range.
+fn look_up(
+    names: &Names,
+    d: &mut Drawing,
+    place: Place,
+    k: usize,
+    table: usize,
+    index: usize,
+    at: Place,
+) -> Result<(), Refusal> {
+    let (size, range) = match names.tables.get(table) {
+        Some(t) => (t.size, t.range),
+        None => (0, Range { low: 0, high: 0 }),
+    };
+    d.note(index, table, at)?;
+    d.onward(Action::AtLeast(index, 0), place)?;
+    d.onward(Action::AtMost(index, size as i64 - 1), place)?;
+    d.onward(Action::Read(k, index, range), place)
+}
+
+// Takes if condition block [else block].
+fn read_choice(
+    s: &mut Sentence,
+    names: &Names,
+    d: &mut Drawing,
+    levels: u8,
+) -> Result<(), Refusal> {
+    let place = s.mark(Mark::If)?;
+    let start = d.here;
+    let c = read_condition(s, names)?;
+    d.onward(c.holds(), place)?;
+    read_block(s, names, d, levels)?;
+    let first = d.here;
+    d.here = start;
+    d.onward(c.fails(), place)?;
+    if s.at(Mark::Else) {
+        let _ = s.take();
+        read_block(s, names, d, levels)?;
+    }
+    join(d, first, place)
+}
+
+// A fresh point with skips from the end of the first block and from here.
+fn join(d: &mut Drawing, first: usize, place: Place) -> Result<(), Refusal> {
+    let second = d.here;
+    d.here = first;
+    d.onward(Action::Skip, place)?;
+    let joined = d.here;
+    d.here = second;
+    d.back(joined, place)?;
+    d.here = joined;
+    Ok(())
+}
+
+// Takes while condition block.
+fn read_repetition(
+    s: &mut Sentence,
+    names: &Names,
+    d: &mut Drawing,
+    levels: u8,
+) -> Result<(), Refusal> {
+    let place = s.mark(Mark::While)?;
+    let c = read_condition(s, names)?;
+    d.onward(Action::Skip, place)?;
+    let head = d.here;
+    d.onward(c.holds(), place)?;
+    read_block(s, names, d, levels)?;
+    d.back(head, place)?;
+    d.here = head;
+    d.onward(c.fails(), place)
+}
+
+// Takes { statements }.
+fn read_block(s: &mut Sentence, names: &Names, d: &mut Drawing, levels: u8) -> Result<(), Refusal> {
+    let place = s.mark(Mark::OpenBrace)?;
+    if levels == 0 {
+        return Err(Refusal::at(Reason::TooDeep, place));
+    }
+    read_statements(s, names, d, levels - 1)?;
+    let _ = s.mark(Mark::CloseBrace)?;
+    Ok(())
+}
