@@ -5,5 +5,12 @@ pub mod Drawings
 pub mod Keeping
 pub mod Verdicts
 pub mod Passing
+pub mod Steps
+pub mod Numbers
+pub mod Sides
+pub mod Conditions
+pub mod Bodies
+pub mod Heads
+pub mod Whole
 pub mod Stands
 pub mod Shown

@@ -10,10 +10,10 @@ use Rattle.words.specs.Words.Text.{ends, fails, reads}
 use Rattle.language.specs.Names.{rule, next-is-bracket}
 use Rattle.language.specs.Expected.{Expect, step, Refusal, refusal, refuse}
 
-abbrev by-rule : List Word → Word → Text → List Expect → ℕ → Option Refusal
+abbrev pub by-rule : List Word → Word → Text → List Expect → ℕ → Option Refusal
 by-rule past w t k₂ m = elim m [ zero ↦ refusal k₂ (w ∷ past) t | suc n ↦ refuse (suc n) (place w) ]
 
-abbrev by-step : List Word → Word → Text → Option (List Expect) → Option Refusal
+abbrev pub by-step : List Word → Word → Text → Option (List Expect) → Option Refusal
 by-step past w t o =
     elim o [
       | None ↦ refuse 5 (place w)
@@ -30,3 +30,9 @@ unfit-word k past w t e = ap (by-step past w t) e
 pub broken-word : (k : List Expect) (past : List Word) (w : Word) (t : Text) (k₂ : List Expect) (n : ℕ) → step k w ≡ Some k₂ → rule past w (next-is-bracket t) ≡ suc n →
     refusal k past (reads w t) ≡ refuse (suc n) (place w)
 broken-word k past w t k₂ n e f = ap (by-step past w t) e ∙ ap (by-rule past w t k₂) f
+
+-- a word at which one rule decides
+pub decided-word : (k : List Expect) (past : List Word) (w : Word) (t : Text) (k₂ : List Expect) (n : ℕ) (b : Bool) → step k w ≡ Some k₂ →
+    rule past w (next-is-bracket t) ≡ cond b (suc n) 0 → refusal k past (reads w t) ≡ cond b (refuse (suc n) (place w)) (refusal k₂ (w ∷ past) t)
+decided-word k past w t k₂ n true e f = broken-word k past w t k₂ n e f
+decided-word k past w t k₂ n false e f = pass-word k past w t k₂ e f

@@ -1,0 +1,100 @@
+-- The verdict on a whole text, from what a reader that went over it says.
+use mathlib.Core.Path.{_≡_, refl, sym, ap, subst, _∙_}
+use mathlib.Core.Bool.{Bool, true, false}
+use mathlib.Core.List.{List, [], _∷_, _++_}
+use Prim.Native.Nat.{ℕ, _≤_, _<_}
+use lib.ListN.{length}
+use Rattle.std.specs.declared.option.Option.{Option}
+use Rattle.std.specs.declared.option.Option.the-variants.{Some, None}
+use Rattle.std.specs.Options.{mapped}
+use Rattle.refusal.specs.Reasons.{number-of, no-memory}
+use Rattle.refusal.specs.declared.Place.{Place}
+use Rattle.refusal.specs.declared.Refusal.{Refusal}
+use Rattle.words.specs.Words.{Word, Text, text}
+use Rattle.words.specs.Words.Text.{ends, fails, reads}
+use Rattle.words.proofs.Reading.{reads-text}
+use Rattle.language.specs.Grammar.{Declaration, Tree, Script, Heads, Body}
+use Rattle.language.specs.Grammar.Statements.{done}
+use Rattle.language.specs.Grammar.Heads.{no-decl}
+use Rattle.language.specs.Grammar.Body.{no-stmt}
+use Rattle.language.specs.Grammar.Script.{script}
+use Rattle.language.specs.Graphs.{Variable, Table as a-table, Drawing, Graph, variables, tables, draw, blank-sheet, finished, graph, maker}
+use Rattle.language.specs.Names.{Passes, Verdict, Outcome}
+use Rattle.language.specs.Names.Outcome.{refused, drawn}
+use Rattle.language.specs.Names.Verdict.{too-many, fine}
+use Rattle.language.specs.Rules.{words}
+use Rattle.language.specs.Expected as expected
+use Rattle.language.specs.Expected.{Expect, refusal, at-first}
+use Rattle.language.specs.Expected.Expect.{heads, body}
+use Rattle.language.specs.Readings.{before, passed, said, begins-statement, begins-declaration, Refuses, Turns-back, Anywhere, Starts, Stated, Declared}
+use Rattle.language.specs.Readings.Turns-back.{by-rule, by-want}
+use Rattle.language.proofs.Steps.{no-statement, no-declaration}
+use Rattle.language.proofs.Verdicts.{passes-with, refused-at}
+
+nil : {A : Type 0} (xs : List A) → xs ++ [] ≡ xs
+nil [] = refl
+nil {A} (x ∷ xs) = ap (λ (z : List A). x ∷ z) (nil xs)
+
+words-before : (ws : List Word) (t : Text) → words (before ws t) ≡ ws ++ words t
+words-before [] t = refl
+words-before (w ∷ ws) t = ap (λ (z : List Word). w ∷ z) (words-before ws t)
+
+-- a refusal of the declarations, of the statements, or of what is left behind them
+pub refuses-heads : (t : Text) (r : Refusal) → Refuses (heads ∷ []) (Starts [] [] 8) t r → refusal at-first [] t ≡ said r
+refuses-heads t r h =
+    h (body ∷ []) [] (record { boundary = Rattle.language.specs.Readings.Boundary.at-start; known = record { vars = refl; tabs = refl }; deep = refl })
+
+module _ {vs : List Variable} {ts : List a-table} {t t₁ : Text} (h : Declared vs ts t t₁) (n : begins-declaration t₁ ≡ false) where
+  behind-heads : refusal at-first [] t ≡ refusal (body ∷ []) (passed (h .words) []) t₁
+  behind-heads = h .goes (body ∷ []) ∙ no-declaration (body ∷ []) (passed (h .words) []) t₁ n
+
+  pub refuses-body : (r : Refusal) → Refuses (body ∷ []) (Starts vs ts 8) t₁ r → refusal at-first [] t ≡ said r
+  refuses-body r i = behind-heads ∙ i [] (passed (h .words) []) (h .starts)
+
+  module _ {t₂ : Text} {d : Drawing} (b : Stated vs ts 8 t₁ t₂ blank-sheet d) (m : begins-statement t₂ ≡ false) where
+    behind-body : refusal at-first [] t ≡ refusal [] (passed (b .words) (passed (h .words) [])) t₂
+    behind-body = behind-heads ∙ b .goes [] (passed (h .words) []) (h .starts) ∙ no-statement [] _ t₂ m
+
+    pub refuses-rest : (r : Refusal) → Refuses [] Anywhere t₂ r → refusal at-first [] t ≡ said r
+    refuses-rest r i = behind-body ∙ i [] _ tt
+
+    module _ {p : Place} (e : t₂ ≡ ends p) where
+      tree : Tree
+      tree = record { declarations = h .declarations; statements = b .more done }
+
+      its-words : words t ≡ h .words ++ b .words
+      its-words =
+          ap words (h .joined ∙ ap (before (h .words)) (b .joined ∙ ap (before (b .words)) e)) ∙ words-before (h .words) (before (b .words) (ends p)) ∙
+          ap (λ (z : List Word). h .words ++ z) (words-before (b .words) (ends p) ∙ nil (b .words))
+
+      is-script : Script (words t) tree
+      unfolding tree
+      is-script =
+          subst (λ (ws : List Word). Script ws tree) (sym its-words)
+          (script (subst (Heads (h .words ++ b .words) (b .words)) (nil (h .declarations)) (h .derived (b .words) (b .words) [] no-decl))
+          (subst (λ (ws : List Word). Body ws [] (b .more done)) (nil (b .words)) (b .derived [] [] done no-stmt)))
+
+      is-drawn : graph tree ≡ finished vs ts d
+      unfolding tree
+      is-drawn =
+          (λ i. finished (sym (h .vars) i) (sym (h .tabs) i) (draw (sym (h .vars) i) (sym (h .tabs) i) (b .more done) blank-sheet)) ∙
+          ap (finished vs ts) (b .draws done)
+
+      module _ (bs : List ℕ) (short : length bs ≤ 8192) (f : t ≡ text bs) where
+        passes : Passes [] (text bs) tree
+        passes = subst (λ (z : Text). Passes [] z tree) f (passes-with t tree is-script (behind-body ∙ ap (refusal [] (passed (b .words) (passed (h .words) []))) e))
+
+        pub verdict-fine : d .points ≤ 96 → Verdict bs (drawn (finished vs ts d))
+        verdict-fine l = subst (λ (g : Graph). Verdict bs (drawn g)) is-drawn (fine short (reads-text bs) passes (subst (λ (g : Graph). g .points ≤ 96) (sym is-drawn) l))
+
+        pub verdict-many : (q : Place) → 96 < d .points → maker 96 (d .edges) ≡ Some q → Verdict bs (refused 13 (Some q))
+        verdict-many q l k =
+            too-many short (reads-text bs) passes (subst (λ (g : Graph). 96 < g .points) (sym is-drawn) l) (subst (λ (g : Graph). maker 96 (g .edges) ≡ Some q) (sym is-drawn) k)
+
+-- the verdict of a refusal at a word
+pub verdict-refused : (bs : List ℕ) (t : Text) (r : Refusal) (p : Place) → length bs ≤ 8192 → t ≡ text bs → r .place ≡ Some p → refusal at-first [] t ≡ said r →
+    Verdict bs (refused (number-of (r .reason)) (r .place))
+verdict-refused bs t r p short f e h =
+    subst (λ (o : Option Place). Verdict bs (refused (number-of (r .reason)) o)) (sym e)
+    (refused-at bs (number-of (r .reason)) p short
+    (ap (refusal at-first []) (sym f) ∙ h ∙ ap (mapped (λ (q : Place). record { number = number-of (r .reason); place = q })) e))

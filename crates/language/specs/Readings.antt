@@ -1,0 +1,225 @@
+-- What a reader that goes over a text once says of each part: which words it passed, what they are by the grammar,
+-- and that the refusal of the whole text is that of what is left; or that the text is refused right there.
+use mathlib.Core.Path.{_≡_}
+use mathlib.Core.Bool.{Bool, true, false, _||_}
+use mathlib.Core.List.{List, [], _∷_, _++_}
+use Prim.Native.Nat.{ℕ, _+_, suc}
+use lib.IntN.{ℤ, pos, negℤ}
+use Rattle.std.specs.declared.option.Option.{Option}
+use Rattle.std.specs.declared.option.Option.the-variants.{Some, None}
+use Rattle.std.specs.Options.{mapped}
+use Rattle.refusal.specs.Reasons.{number-of, no-memory}
+use Rattle.refusal.specs.declared.Place.{Place}
+use Rattle.refusal.specs.declared.Refusal.{Refusal}
+use Rattle.words.specs.Words.{Word, Text, among}
+use Rattle.words.specs.Words.Word.{name, number, mark}
+use Rattle.words.specs.Words.Text.{ends, fails, reads}
+use Rattle.words.specs.Marks.{is}
+use Rattle.words.specs.declared.Mark.{Mark}
+use Rattle.words.specs.declared.Mark.the-variants.{Becomes, Dots, Less, LessEqual, Greater, GreaterEqual, Minus, OpenBrace, CloseBrace, OpenBracket, Semicolon, Var, Table, If, While}
+use Rattle.language.specs.Grammar.{Declaration, Condition, Statements, Heads, Cond, Body}
+use Rattle.language.specs.Grammar.Statements.{choose}
+use Rattle.language.specs.Graphs.{Variable, Table as a-table, Drawing, variables, tables, var-names, table-names, draw}
+use Rattle.language.specs.Names.{follows, names-behind, level}
+use Rattle.language.specs.Expected as expected
+use Rattle.language.specs.Expected.{Expect, refusal}
+use Rattle.language.specs.Expected.Expect.{heads, body, block, else-part}
+
+-- words in turn, and then a text
+abbrev pub before : List Word → Text → Text
+before [] t = t
+before (w ∷ ws) t = reads w (before ws t)
+
+-- more words behind the past; the latest stands first
+abbrev pub passed : List Word → List Word → List Word
+passed [] past = past
+passed (w ∷ ws) past = passed ws (w ∷ past)
+
+-- the first word is this mark, or a name
+abbrev pub first-is : Mark → Text → Bool
+first-is m (ends p) = false
+first-is m (fails n p) = false
+first-is m (reads w t) = is m w
+
+abbrev pub is-name : Word → Bool
+is-name (name n p) = true
+is-name (number n p) = false
+is-name (mark m p) = false
+
+abbrev pub first-names : Text → Bool
+first-names (ends p) = false
+first-names (fails n p) = false
+first-names (reads w t) = is-name w
+
+-- a refusal with a place, by its number
+abbrev pub said : Refusal → Option expected.Refusal
+said r = mapped (λ (p : Place). record { number = number-of (r .reason); place = p }) (r .place)
+
+-- Where these are expected, and then anything, behind a past that is so (C): the text is refused so.
+abbrev pub Refuses : List Expect → (List Word → Type 0) → Text → Refusal → Type 0
+Refuses es C t r = (k : List Expect) (past : List Word) → C past → refusal (es ++ k) past t ≡ said r
+
+-- A call turns back by a rule that fails at a place, or for want of memory.
+pub data Turns-back (es : List Expect) (C : List Word → Type 0) (t : Text) (r : Refusal) : Type 0 where
+  by-rule : (p : Place) → r .place ≡ Some p → Refuses es C t r → Turns-back es C t r
+  by-want : r ≡ no-memory → Turns-back es C t r
+
+abbrev pub Anywhere : List Word → Type 0
+Anywhere past = Unit {0}
+
+-- the same names are declared and as many blocks are open
+pub record Alike (past past₂ : List Word) : Type 0 where
+  pub vars : names-behind Var past ≡ names-behind Var past₂
+  pub tabs : names-behind Table past ≡ names-behind Table past₂
+  pub lev : level past ≡ level past₂
+
+-- The words from the text t up to t₂ are what is expected. They are so by the grammar (D), declare no name and open no
+-- block; and behind a past that is so (C), what is refused of t is what is refused of t₂.
+pub record Over (es : List Expect) (C D : List Word → Type 0) (t t₂ : Text) : Type 0 where
+  pub words : List Word
+  pub joined : t ≡ before words t₂
+  pub derived : D words
+  pub alike : (past : List Word) → C past → Alike (passed words past) past
+  pub goes : (k : List Expect) (past : List Word) → C past → refusal (es ++ k) past t ≡ refusal k (passed words past) t₂
+
+-- [-] number, with the place of the digits
+pub data Spells : List Word → ℤ → Place → Type 0 where
+  plain : {n : ℕ} {p : Place} → Spells (number n p ∷ []) (pos n) p
+  signed : {n : ℕ} {p q : Place} → Spells (mark Minus q ∷ number n p ∷ []) (negℤ (pos n)) p
+
+pub record Constant (z : ℤ) (p : Place) (t t₂ : Text) : Type 0 where
+  pub words : List Word
+  pub joined : t ≡ before words t₂
+  pub spells : Spells words z p
+
+-- no rule on numbers looks at this past
+pub record Quiet (past : List Word) : Type 0 where
+  pub minus : follows Minus past ≡ false
+  pub dots : follows Dots past ≡ false
+  pub bracket : follows OpenBracket past ≡ false
+
+-- the word just before is this mark
+pub data Behind (m : Mark) : List Word → Type 0 where
+  behind : {p : Place} {past : List Word} → Behind m (mark m p ∷ past)
+
+-- the words just before are := and -
+pub data Negates : List Word → Type 0 where
+  negates : {p q : Place} {past : List Word} → Negates (mark Minus q ∷ mark Becomes p ∷ past)
+
+-- the words just before are this name and a comparison
+pub data Compares (n : List ℕ) : List Word → Type 0 where
+  c-less : {p q : Place} {past : List Word} → Compares n (mark Less p ∷ name n q ∷ past)
+  c-less-equal : {p q : Place} {past : List Word} → Compares n (mark LessEqual p ∷ name n q ∷ past)
+  c-greater : {p q : Place} {past : List Word} → Compares n (mark Greater p ∷ name n q ∷ past)
+  c-greater-equal : {p q : Place} {past : List Word} → Compares n (mark GreaterEqual p ∷ name n q ∷ past)
+
+-- a condition stands behind `if` or `while`
+pub data Asks : List Word → Type 0 where
+  behind-if : {p : Place} {past : List Word} → Asks (mark If p ∷ past)
+  behind-while : {p : Place} {past : List Word} → Asks (mark While p ∷ past)
+
+-- a statement stands at the start, behind ; or behind a brace
+pub data Boundary : List Word → Type 0 where
+  at-start : Boundary []
+  behind-semicolon : {p : Place} {past : List Word} → Boundary (mark Semicolon p ∷ past)
+  behind-open : {p : Place} {past : List Word} → Boundary (mark OpenBrace p ∷ past)
+  behind-close : {p : Place} {past : List Word} → Boundary (mark CloseBrace p ∷ past)
+
+module _ (vs : List Variable) (ts : List a-table) where
+  -- these are the names declared in the past
+  pub record Known (past : List Word) : Type 0 where
+    pub vars : names-behind Var past ≡ var-names vs
+    pub tabs : names-behind Table past ≡ table-names ts
+
+  -- behind this mark, with these names
+  pub record Knows-behind (m : Mark) (past : List Word) : Type 0 where
+    pub follows : Behind m past
+    pub known : Known past
+
+  pub record Knows-negates (past : List Word) : Type 0 where
+    pub negates : Negates past
+    pub known : Known past
+
+  pub record Knows-asks (past : List Word) : Type 0 where
+    pub asks : Asks past
+    pub known : Known past
+
+  pub record Knows-compares (n : List ℕ) (past : List Word) : Type 0 where
+    pub compares : Compares n past
+    pub known : Known past
+
+  -- a statement may begin here, and blocks may nest so many levels deeper
+  pub record Starts (levels : ℕ) (past : List Word) : Type 0 where
+    pub boundary : Boundary past
+    pub known : Known past
+    pub deep : level past + levels ≡ 8
+
+  -- a block may stand here
+  pub record Inner (levels : ℕ) (past : List Word) : Type 0 where
+    pub known : Known past
+    pub deep : level past + levels ≡ 8
+
+  -- Statements: the words from t up to t₂ are some, which with any statements behind them are one body (`more`), and
+  -- which take the drawing d to d₂.
+  pub record Stated (levels : ℕ) (t t₂ : Text) (d d₂ : Drawing) : Type 0 where
+    pub words : List Word
+    pub joined : t ≡ before words t₂
+    pub more : Statements → Statements
+    pub derived : (r₀ r : List Word) (rest : Statements) → Body r₀ r rest → Body (words ++ r₀) r (more rest)
+    pub draws : (rest : Statements) → draw vs ts (more rest) d ≡ draw vs ts rest d₂
+    pub stays : (past : List Word) → Starts levels past → Starts levels (passed words past)
+    pub goes : (k : List Expect) (past : List Word) → Starts levels past → refusal (body ∷ k) past t ≡ refusal (body ∷ k) (passed words past) t₂
+
+  -- A block: a brace, statements of the tree `tree`, and a brace, behind a condition or `else`.
+  pub record Blocked (levels : ℕ) (t t₂ : Text) (d d₂ : Drawing) : Type 0 where
+    pub opened : Place
+    pub closed : Place
+    pub inside : List Word
+    pub joined : t ≡ reads (mark OpenBrace opened) (before inside (reads (mark CloseBrace closed) t₂))
+    pub tree : Statements
+    pub derived : (r : List Word) → Body (inside ++ (mark CloseBrace closed ∷ r)) (mark CloseBrace closed ∷ r) tree
+    pub draws : draw vs ts tree d ≡ d₂
+    pub stays : (past : List Word) → Inner levels past → Starts levels (mark CloseBrace closed ∷ passed inside (mark OpenBrace opened ∷ past))
+    pub goes : (k : List Expect) (past : List Word) → Inner levels past →
+        refusal (block ∷ k) past t ≡ refusal k (mark CloseBrace closed ∷ passed inside (mark OpenBrace opened ∷ past)) t₂
+
+  -- What may follow the first block of an `if`: `else` and a block, or nothing. Its tree is then the second block's.
+  pub record Elsed (levels : ℕ) (t t₂ : Text) (d d₂ : Drawing) : Type 0 where
+    pub words : List Word
+    pub joined : t ≡ before words t₂
+    pub tree : Statements
+    pub derived : (p o x : Place) (ws ws₁ ws₃ r : List Word) (c : Condition) (b rest : Statements) → Cond ws (mark OpenBrace o ∷ ws₁) c →
+        Body ws₁ (mark CloseBrace x ∷ (words ++ ws₃)) b → Body ws₃ r rest → Body (mark If p ∷ ws) r (choose p c b tree rest)
+    pub draws : draw vs ts tree d ≡ d₂
+    pub stays : (past : List Word) → Starts levels past → Starts levels (passed words past)
+    pub goes : (k : List Expect) (past : List Word) → Starts levels past → refusal (else-part ∷ k) past t ≡ refusal k (passed words past) t₂
+
+-- One declaration: behind the variables vs and the tables ts, with which there are then vs₂ and ts₂.
+pub record Declares (vs vs₂ : List Variable) (ts ts₂ : List a-table) (t t₂ : Text) : Type 0 where
+  pub words : List Word
+  pub joined : t ≡ before words t₂
+  pub declaration : Declaration
+  pub derived : (r₀ r : List Word) (rest : List Declaration) → Heads r₀ r rest → Heads (words ++ r₀) r (declaration ∷ rest)
+  pub vars : vs₂ ≡ vs ++ variables (declaration ∷ [])
+  pub tabs : ts₂ ≡ ts ++ tables (declaration ∷ [])
+  pub stays : (past : List Word) → Starts vs ts 8 past → Starts vs₂ ts₂ 8 (passed words past)
+  pub goes : (k : List Expect) (past : List Word) → Starts vs ts 8 past → refusal (heads ∷ k) past t ≡ refusal (heads ∷ k) (passed words past) t₂
+
+-- Declarations from the start of a script on: the words from t up to t₂, with any declarations behind them.
+pub record Declared (vs : List Variable) (ts : List a-table) (t t₂ : Text) : Type 0 where
+  pub words : List Word
+  pub joined : t ≡ before words t₂
+  pub declarations : List Declaration
+  pub derived : (r₀ r : List Word) (rest : List Declaration) → Heads r₀ r rest → Heads (words ++ r₀) r (declarations ++ rest)
+  pub vars : vs ≡ variables declarations
+  pub tabs : ts ≡ tables declarations
+  pub starts : Starts vs ts 8 (passed words [])
+  pub goes : (k : List Expect) → refusal (heads ∷ k) [] t ≡ refusal (heads ∷ k) (passed words []) t₂
+
+-- a statement begins with a name, `if` or `while`
+abbrev pub begins-statement : Text → Bool
+begins-statement t = first-names t || first-is If t || first-is While t
+
+-- a declaration begins with `var` or `table`
+abbrev pub begins-declaration : Text → Bool
+begins-declaration t = first-is Var t || first-is Table t
