@@ -26,7 +26,7 @@ use Rattle.language.specs.Rules.{words}
 use Rattle.language.specs.Expected as expected
 use Rattle.language.specs.Expected.{Expect, refusal, at-first}
 use Rattle.language.specs.Expected.Expect.{heads, body}
-use Rattle.language.specs.Readings.{before, passed, said, begins-statement, begins-declaration, Refuses, Turns-back, Anywhere, Starts, Stated, Declared}
+use Rattle.language.specs.Readings.{before, passed, said, begins-statement, begins-declaration, Refuses, Turns-back, Unended, Starts, Stated, Declared}
 use Rattle.language.specs.Readings.Turns-back.{by-rule, by-want}
 use Rattle.language.proofs.Steps.{no-statement, no-declaration}
 use Rattle.language.proofs.Verdicts.{passes-with, refused-at}
@@ -55,8 +55,8 @@ module _ {vs : List Variable} {ts : List a-table} {t t₁ : Text} (h : Declared 
     behind-body : refusal at-first [] t ≡ refusal [] (passed (b .words) (passed (h .words) [])) t₂
     behind-body = behind-heads ∙ b .goes [] (passed (h .words) []) (h .starts) ∙ no-statement [] _ t₂ m
 
-    pub refuses-rest : (r : Refusal) → Refuses [] Anywhere t₂ r → refusal at-first [] t ≡ said r
-    refuses-rest r i = behind-body ∙ i [] _ tt
+    pub refuses-rest : (r : Refusal) → Unended t₂ r → refusal at-first [] t ≡ said r
+    refuses-rest r i = behind-body ∙ i .refuses _
 
     module _ {p : Place} (e : t₂ ≡ ends p) where
       tree : Tree

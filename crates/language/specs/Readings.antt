@@ -64,6 +64,12 @@ pub data Turns-back (es : List Expect) (C : List Word → Type 0) (t : Text) (r 
   by-rule : (p : Place) → r .place ≡ Some p → Refuses es C t r → Turns-back es C t r
   by-want : r ≡ no-memory → Turns-back es C t r
 
+-- Nothing is expected any more, and yet the text goes on: it is refused so.
+pub record Unended (t : Text) (r : Refusal) : Type 0 where
+  pub at : Place
+  pub placed : r .place ≡ Some at
+  pub refuses : (past : List Word) → refusal [] past t ≡ said r
+
 abbrev pub Anywhere : List Word → Type 0
 Anywhere past = Unit {0}
 

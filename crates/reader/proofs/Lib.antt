@@ -1,0 +1,3 @@
+pub mod Exits
+pub mod Sentences
+pub mod Naming

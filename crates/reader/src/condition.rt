@@ -2,10 +2,8 @@
 use crate::names::Names;
 use crate::sentence::Sentence;
 use language::Action;
-use refusal::Place;
 use refusal::Reason;
 use refusal::Refusal;
-use words::Found;
 use words::Mark;
 
 #[derive(Clone, Copy)]

@@ -1,6 +1,6 @@
 // Declarations of variables and tables.
-use crate::graph::Table;
-use crate::graph::Variable;
+use crate::Table;
+use crate::Variable;
 use crate::names::Names;
 use crate::sentence::Sentence;
 use crate::side::read_range;
@@ -33,7 +33,9 @@ fn read_declaration(heap: Global, s: &mut Sentence, names: &mut Names) -> Result
 // Takes what follows `var`.
 fn read_variable(heap: Global, s: &mut Sentence, names: &mut Names) -> Result<(), Refusal> {
     let (name, place) = s.name()?;
-    names.fresh(name, place)?;
+    if names.has(name) {
+        return Err(Refusal::at(Reason::DeclaredBefore, place));
+    }
     if names.variables.len() >= 8 {
         return Err(Refusal::at(Reason::TooManyNames, place));
     }
@@ -48,7 +50,9 @@ fn read_variable(heap: Global, s: &mut Sentence, names: &mut Names) -> Result<()
 // Takes what follows `table`.
 fn read_table(heap: Global, s: &mut Sentence, names: &mut Names) -> Result<(), Refusal> {
     let (name, place) = s.name()?;
-    names.fresh(name, place)?;
+    if names.has(name) {
+        return Err(Refusal::at(Reason::DeclaredBefore, place));
+    }
     if names.tables.len() >= 8 {
         return Err(Refusal::at(Reason::TooManyNames, place));
     }

@@ -1,28 +1,16 @@
 // The graph of a script: variables and tables in the order declared, points, edges and table reads in the order made.
 mod questions;
 
+use crate::Table;
+use crate::Variable;
 use crate::drawing::Drawing;
 use crate::names::Names;
 use language::Edge;
 use language::Lookup;
-use language::Range;
 use refusal::Refusal;
 use refusal::RefusalFromAlloc;
 use refusal::RefusalFromRefused;
 use std::alloc::Global;
-
-#[derive(Drop)]
-pub struct Variable {
-    pub name: Vec<u8>,
-    pub range: Range,
-}
-
-#[derive(Drop)]
-pub struct Table {
-    pub name: Vec<u8>,
-    pub size: u32,
-    pub range: Range,
-}
 
 #[derive(Drop)]
 pub struct Graph {

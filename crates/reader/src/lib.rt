@@ -1,4 +1,5 @@
 // Reads a script in one pass: words in, graph out.
+use language::Range;
 use refusal::Reason;
 use refusal::Refusal;
 use std::alloc::Global;
@@ -15,6 +16,21 @@ mod statements;
 use drawing::Drawing;
 use graph::Graph;
 use sentence::Sentence;
+
+// A variable, with the range of its start values.
+#[derive(Drop)]
+pub struct Variable {
+    pub name: Vec<u8>,
+    pub range: Range,
+}
+
+// A table, with the range of its entries.
+#[derive(Drop)]
+pub struct Table {
+    pub name: Vec<u8>,
+    pub size: u32,
+    pub range: Range,
+}
 
 // A script has at most this many bytes.
 pub const MOST_BYTES: usize = 8192;

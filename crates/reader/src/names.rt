@@ -1,6 +1,18 @@
 // The names that a script declares: variables and tables share one space of names.
-use crate::graph::Table;
-use crate::graph::Variable;
+ghost use mathlib.Core.Path.{_≡_};
+ghost use mathlib.Core.Bool.{true, false, _||_};
+ghost use mathlib.Core.List.{List, map, []};
+ghost use Prim.Native.Nat.{ℕ};
+ghost use Rattle.std.specs.Of.Vec.{vec-items};
+ghost use Rattle.std.specs.Options.{Cases as BySome};
+ghost use Rattle.std.specs.Results.{Cases};
+ghost use Rattle.refusal.specs.Reasons.{located};
+ghost use Rattle.refusal.specs.declared.Reason.the-variants.{Undeclared};
+ghost use Rattle.words.specs.Words.{same, among};
+ghost use Rattle.language.specs.Graphs.{var-names, table-names, number-of};
+ghost use Rattle.reader.specs.Models.{vars-of, tabs-of};
+use crate::Table;
+use crate::Variable;
 use refusal::Place;
 use refusal::Reason;
 use refusal::Refusal;
@@ -12,25 +24,41 @@ pub struct Names {
     pub tables: Vec<Table>,
 }
 
+// Whether two names are the same.
+pub fn same_name(a: &[u8], b: &[u8]) -> bool
+    ensures { λ r. ⌜ r ≡ same (now (a .entry)) (now (b .entry)) ⌝ }
+{
+    a == b
+}
+
 // What is declared under a name.
 pub trait Named {
-    fn is_called(&self, name: &[u8]) -> bool;
+    ghost called: { Self → List ℕ };
+
+    fn is_called(&self, name: &[u8]) -> bool
+        ensures { λ r. ⌜ r ≡ same (now (name .entry)) (called (now (self .entry))) ⌝ };
 }
 
 pub impl Named for Variable as VariableNamed {
+    ghost called = { λ v. vec-items (v .name) };
+
     fn is_called(&self, name: &[u8]) -> bool {
-        name == self.name.as_slice()
+        same_name(name, self.name.as_slice())
     }
 }
 
 pub impl Named for Table as TableNamed {
+    ghost called = { λ t. vec-items (t .name) };
+
     fn is_called(&self, name: &[u8]) -> bool {
-        name == self.name.as_slice()
+        same_name(name, self.name.as_slice())
     }
 }
 
 // The number of the first that has this name.
-fn position<T: Named>(list: &[T], name: &[u8]) -> Option<usize> {
+fn position<T: Named>(list: &[T], name: &[u8]) -> Option<usize>
+    ensures { λ r. ⌜ BySome r (among (now (name .entry)) (map (T·Named .called) (now (list .entry))) ≡ false) (λ i. (among (now (name .entry)) (map (T·Named .called) (now (list .entry))) ≡ true) × (i ≡ number-of (now (name .entry)) (map (T·Named .called) (now (list .entry))))) ⌝ }
+{
     for (i, x) in list.iter().enumerate() {
         if x.is_called(name) {
             return Some(i);
@@ -40,33 +68,37 @@ fn position<T: Named>(list: &[T], name: &[u8]) -> Option<usize> {
 }
 
 impl Names {
-    pub fn new(heap: Global) -> Names {
+    // No name is declared.
+    pub fn new(heap: Global) -> Names
+        ensures { λ r. ⌜ (vars-of r ≡ []) × (tabs-of r ≡ []) ⌝ }
+    {
         Names {
             variables: Vec::new(heap),
             tables: Vec::new(heap),
         }
     }
 
-    // A name that is not declared yet.
-    pub fn fresh(&self, name: &[u8], place: Place) -> Result<(), Refusal> {
-        if position(self.variables.as_slice(), name).is_some()
-            || position(self.tables.as_slice(), name).is_some()
-        {
-            return Err(Refusal::at(Reason::DeclaredBefore, place));
-        }
-        Ok(())
+    // Whether this name is declared.
+    pub fn has(&self, name: &[u8]) -> bool
+        ensures { λ r. ⌜ r ≡ (among (now (name .entry)) (var-names (vars-of (now (self .entry)))) || among (now (name .entry)) (table-names (tabs-of (now (self .entry))))) ⌝ }
+    {
+        position(self.variables.as_slice(), name).is_some() || position(self.tables.as_slice(), name).is_some()
     }
 
-    // The number of the variable of this name.
-    pub fn variable(&self, name: &[u8], place: Place) -> Result<usize, Refusal> {
+    // The number of the variable of this name, which stands at this place.
+    pub fn variable(&self, name: &[u8], place: Place) -> Result<usize, Refusal>
+        ensures { λ r. ⌜ Cases r (λ i. (among (now (name .entry)) (var-names (vars-of (now (self .entry)))) ≡ true) × (i ≡ number-of (now (name .entry)) (var-names (vars-of (now (self .entry)))))) (λ e. (among (now (name .entry)) (var-names (vars-of (now (self .entry)))) ≡ false) × (e ≡ located Undeclared place)) ⌝ }
+    {
         match position(self.variables.as_slice(), name) {
             Some(i) => Ok(i),
             None => Err(Refusal::at(Reason::Undeclared, place)),
         }
     }
 
-    // The number of the table of this name.
-    pub fn table(&self, name: &[u8], place: Place) -> Result<usize, Refusal> {
+    // The number of the table of this name, which stands at this place.
+    pub fn table(&self, name: &[u8], place: Place) -> Result<usize, Refusal>
+        ensures { λ r. ⌜ Cases r (λ i. (among (now (name .entry)) (table-names (tabs-of (now (self .entry)))) ≡ true) × (i ≡ number-of (now (name .entry)) (table-names (tabs-of (now (self .entry)))))) (λ e. (among (now (name .entry)) (table-names (tabs-of (now (self .entry)))) ≡ false) × (e ≡ located Undeclared place)) ⌝ }
+    {
         match position(self.tables.as_slice(), name) {
             Some(i) => Ok(i),
             None => Err(Refusal::at(Reason::Undeclared, place)),

@@ -1,4 +1,18 @@
 // The present word of a script, and the words behind it.
+ghost use mathlib.Core.Path.{_≡_};
+ghost use mathlib.Core.List.{[], _∷_};
+ghost use lib.Dec.{eqb};
+ghost use Rattle.std.specs.Results.{Cases};
+ghost use Rattle.words.specs.Words.{text};
+ghost use Rattle.words.specs.Words.Text.{ends, reads};
+ghost use Rattle.words.specs.Words.Word.{name, number, mark as sign};
+ghost use Rattle.words.specs.Marks.{code};
+ghost use Rattle.words.specs.Reader.{as-next, leads};
+ghost use Rattle.language.specs.Expected.{one};
+ghost use Rattle.language.specs.Expected.Expect.{just, const};
+ghost use Rattle.language.specs.Expected.Terminal.{any-name, any-number};
+ghost use Rattle.language.specs.Readings.{first-is, first-names, Anywhere, Turns-back, Unended, Constant};
+ghost use Rattle.reader.specs.Models.{left, unfit};
 use refusal::Place;
 use refusal::Reason;
 use refusal::Refusal;
@@ -12,46 +26,84 @@ pub struct Sentence<'a> {
     present: Found<'a>,
 }
 
+// Whether two marks are the same.
+fn same_mark(a: Mark, b: Mark) -> bool
+    ensures { λ r. ⌜ r ≡ eqb (code a) (code b) ⌝ }
+{
+    a as u8 == b as u8
+}
+
+// A word that no script continues with, unless it is in fault itself.
+fn unexpected(found: Found) -> Refusal
+    ensures { λ r. ⌜ r ≡ unfit (found .entry) ⌝ }
+{
+    match found {
+        Found::Fault(reason, place) => Refusal::at(reason, place),
+        Found::Name(_, place) | Found::Number(_, place) | Found::Sign(_, place) | Found::End(place) => {
+            Refusal::at(Reason::Unexpected, place)
+        }
+    }
+}
+
 impl<'a> Sentence<'a> {
-    pub fn new(script: &'a [u8]) -> Sentence<'a> {
+    // The whole script.
+    pub fn new(script: &'a [u8]) -> Sentence<'a>
+        ensures { λ r. ⌜ left r ≡ text (now (script .entry)) ⌝ }
+    {
         let mut words = WordReader::new(script);
         let present = words.next();
         Sentence { words, present }
     }
 
     // Hands out the present word and goes on to the next.
-    pub fn take(&mut self) -> Found<'a> {
+    pub fn take(&mut self) -> Found<'a>
+        ensures { λ r. ⌜ left (now (self .entry)) ≡ leads (as-next r) (left (now (self .exit))) ⌝ }
+    {
         let present = self.present;
         self.present = self.words.next();
         present
     }
 
     // Whether the present word is this mark.
-    pub fn at(&self, mark: Mark) -> bool {
+    pub fn at(&self, mark: Mark) -> bool
+        ensures { λ r. ⌜ r ≡ first-is mark (left (now (self .entry))) ⌝ }
+    {
         match self.present {
-            Found::Sign(present, _) => mark as u8 == present as u8,
-            _ => false,
+            Found::Sign(present, _) => same_mark(mark, present),
+            Found::Name(_, _) | Found::Number(_, _) | Found::Fault(_, _) | Found::End(_) => false,
         }
     }
 
     // Whether the present word is a name.
-    pub fn at_name(&self) -> bool {
+    pub fn at_name(&self) -> bool
+        ensures { λ r. ⌜ r ≡ first-names (left (now (self .entry))) ⌝ }
+    {
         match self.present {
             Found::Name(_, _) => true,
-            _ => false,
+            Found::Number(_, _) | Found::Sign(_, _) | Found::Fault(_, _) | Found::End(_) => false,
         }
     }
 
     // Takes this mark.
-    pub fn mark(&mut self, mark: Mark) -> Result<Place, Refusal> {
+    pub fn mark(&mut self, mark: Mark) -> Result<Place, Refusal>
+        ensures { λ r. ⌜ Cases r (λ p. left (now (self .entry)) ≡ reads (sign mark p) (left (now (self .exit)))) (λ e. Turns-back (one mark ∷ []) Anywhere (left (now (self .entry))) e) ⌝ }
+    {
         match self.take() {
-            Found::Sign(present, place) if present as u8 == mark as u8 => Ok(place),
+            Found::Sign(present, place) => {
+                if same_mark(mark, present) {
+                    Ok(place)
+                } else {
+                    Err(Refusal::at(Reason::Unexpected, place))
+                }
+            }
             other => Err(unexpected(other)),
         }
     }
 
     // Takes a number.
-    pub fn number(&mut self) -> Result<(u32, Place), Refusal> {
+    pub fn number(&mut self) -> Result<(u32, Place), Refusal>
+        ensures { λ r. ⌜ Cases r (λ x. left (now (self .entry)) ≡ reads (number (x .0) (x .1)) (left (now (self .exit)))) (λ e. Turns-back (just any-number ∷ []) Anywhere (left (now (self .entry))) e) ⌝ }
+    {
         match self.take() {
             Found::Number(n, place) => Ok((n, place)),
             other => Err(unexpected(other)),
@@ -59,7 +111,9 @@ impl<'a> Sentence<'a> {
     }
 
     // Takes a name.
-    pub fn name(&mut self) -> Result<(&'a [u8], Place), Refusal> {
+    pub fn name(&mut self) -> Result<(&'a [u8], Place), Refusal>
+        ensures { λ r. ⌜ Cases r (λ x. left (now (self .entry)) ≡ reads (name (x .0 .now) (x .1)) (left (now (self .exit)))) (λ e. Turns-back (just any-name ∷ []) Anywhere (left (now (self .entry))) e) ⌝ }
+    {
         match self.take() {
             Found::Name(name, place) => Ok((name, place)),
             other => Err(unexpected(other)),
@@ -67,7 +121,9 @@ impl<'a> Sentence<'a> {
     }
 
     // Nothing is left.
-    pub fn end(&mut self) -> Result<(), Refusal> {
+    pub fn end(&mut self) -> Result<(), Refusal>
+        ensures { λ r. ⌜ Cases r (λ _. (p : Place) × (left (now (self .entry)) ≡ ends p)) (λ e. Unended (left (now (self .entry))) e) ⌝ }
+    {
         match self.take() {
             Found::End(_) => Ok(()),
             other => Err(unexpected(other)),
@@ -75,24 +131,16 @@ impl<'a> Sentence<'a> {
     }
 
     // Takes [-] number; the place is that of the digits.
-    pub fn constant(&mut self) -> Result<(i64, Place), Refusal> {
-        let negative = self.at(Mark::Minus);
-        if negative {
+    pub fn constant(&mut self) -> Result<(i64, Place), Refusal>
+        ensures { λ r. ⌜ Cases r (λ x. Constant (x .0) (x .1) (left (now (self .entry))) (left (now (self .exit)))) (λ e. Turns-back (const ∷ []) Anywhere (left (now (self .entry))) e) ⌝ }
+    {
+        if self.at(Mark::Minus) {
             let _ = self.take();
+            let (n, place) = self.number()?;
+            Ok((-(n as i64), place))
+        } else {
+            let (n, place) = self.number()?;
+            Ok((n as i64, place))
         }
-        let (n, place) = self.number()?;
-        let size = n as i64;
-        Ok((if negative { -size } else { size }, place))
-    }
-}
-
-// A word that no script continues with, unless it is in fault itself.
-fn unexpected(found: Found) -> Refusal {
-    match found {
-        Found::Fault(reason, place) => Refusal::at(reason, place),
-        Found::Name(_, place)
-        | Found::Number(_, place)
-        | Found::Sign(_, place)
-        | Found::End(place) => { Refusal::at(Reason::Unexpected, place) }
     }
 }

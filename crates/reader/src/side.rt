@@ -6,7 +6,6 @@ use language::Source;
 use refusal::Place;
 use refusal::Reason;
 use refusal::Refusal;
-use words::Found;
 use words::Mark;
 
 // A right side, by the numbers of its variables and tables.
@@ -28,12 +27,6 @@ pub fn read_range(s: &mut Sentence) -> Result<Range, Refusal> {
         return Err(Refusal::at(Reason::RangeFalls, place));
     }
     Ok(Range { low, high })
-}
-
-// Takes the name of a variable.
-pub fn read_variable(s: &mut Sentence, names: &Names) -> Result<usize, Refusal> {
-    let (name, place) = s.name()?;
-    names.variable(name, place)
 }
 
 // Takes a right side.
@@ -60,7 +53,9 @@ pub fn read_side(s: &mut Sentence, names: &Names) -> Result<Side, Refusal> {
 // Takes what follows - at the front of a right side.
 fn read_negative(s: &mut Sentence, names: &Names) -> Result<Side, Refusal> {
     if s.at_name() {
-        return Ok(Side::Negated(read_variable(s, names)?));
+        let (name, place) = s.name()?;
+        let i = names.variable(name, place)?;
+        return Ok(Side::Negated(i));
     }
     let (n, _) = s.number()?;
     Ok(Side::Constant(-(n as i64)))

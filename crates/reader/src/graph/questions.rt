@@ -1,7 +1,7 @@
 // What a graph tells.
 use crate::graph::Graph;
-use crate::graph::Table;
-use crate::graph::Variable;
+use crate::Table;
+use crate::Variable;
 use language::Edge;
 use language::Lookup;
 

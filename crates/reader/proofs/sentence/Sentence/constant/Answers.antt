@@ -1,0 +1,29 @@
+use mathlib.Core.Path.{_≡_, sym}
+use native.Mathlib.Omega.{arith}
+use borrow.Author.Differences.{ints}
+use Rattle.language.proofs.Bodies.{turns}
+use Rattle.language.proofs.Numbers.{constant-plain, constant-signed, refuses-plain, refuses-signed}
+use Rattle.words.specs.declared.Mark.the-variants.{Minus}
+use Rattle.reader.specs.Models.{left}
+use Rattle.reader.proofs.Exits.{handed-on}
+use Rattle.reader.proofs.Sentences.{taken-mark}
+use Rattle.reader.proofs.sentence.Sentence.constant.Needs as need
+
+pub returns-in-Break-n : need.returns-in-Break-n
+returns-in-Break-n c =
+    let m = taken-mark Minus _ (left (c .args .self .now)) (left (c .take .last .self)) (c .take .ensures) (sym (c .if-at .ensures tt)) in
+    handed-on _ _ (c .from-residual .result) _ (c .from-residual .ensures .1)
+    (turns (refuses-signed (m .0) _ _ _ (m .1)) (c .in-Break-n .ensures tt))
+
+pub returns-in-Break-n-2 : need.returns-in-Break-n-2
+returns-in-Break-n-2 c =
+    handed-on _ _ (c .from-residual-in-Break-n-2 .result) _ (c .from-residual-in-Break-n-2 .ensures .1)
+    (turns (refuses-plain (left (c .args .self .now)) _ (sym (c .if-at .ensures tt))) (c .in-Break-n-2 .ensures tt))
+
+pub returns-in-Continue-n : need.returns-in-Continue-n
+returns-in-Continue-n c =
+    let m = taken-mark Minus _ (left (c .args .self .now)) (left (c .take .last .self)) (c .take .ensures) (sym (c .if-at .ensures tt)) in
+    constant-signed (c .in-Continue-n .n) _ (m .0) _ _ _ _ (omega (arith, ints)) (m .1) (c .in-Continue-n .ensures tt)
+
+pub returns-in-Continue-n-2 : need.returns-in-Continue-n-2
+returns-in-Continue-n-2 c = constant-plain (c .in-Continue-n-2 .n) _ _ _ _ (omega (arith, ints)) (c .in-Continue-n-2 .ensures tt)
