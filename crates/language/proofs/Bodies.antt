@@ -23,19 +23,13 @@ use Rattle.language.specs.Names.{rule, is-variable, level, next-is-bracket}
 use Rattle.language.specs.Expected.{Expect, one, refusal, refuse}
 use Rattle.language.specs.Expected.Expect.{just, body, condition, block, else-part, right}
 use Rattle.language.specs.Expected.Terminal.{any-name}
-use Rattle.language.specs.Readings.{before, passed, first-is, first-names, begins-statement, Refuses, Turns-back, Anywhere, Alike, Over, Boundary, Known, Knows-behind, Knows-asks, Starts, Inner, Stated, Blocked, Elsed}
-use Rattle.language.specs.Readings.Turns-back.{by-rule, by-want}
+use Rattle.language.specs.Readings.{before, passed, first-is, first-names, begins-statement, Refuses, Anywhere, Alike, Over, is-right, is-condition, Boundary, Known, Knows-behind, Knows-asks, Starts, Inner, Stated, Blocked, Elsed}
 use Rattle.language.specs.Readings.Behind.{behind}
 use Rattle.language.specs.Readings.Asks.{behind-if, behind-while}
 use Rattle.language.specs.Readings.Boundary.{at-start, behind-semicolon, behind-open, behind-close}
 use Rattle.language.proofs.Passing.{decided-word}
 use Rattle.language.proofs.Steps.{before-++, passed-++, first-mark, first-name, alike-name, alike-then, no-statement, no-else, block-brace}
-use Rattle.language.proofs.Sides.{is-right, variable-decides}
-
--- a refusal of a part is one of the whole
-pub turns : {es es₂ : List Expect} {C C₂ : List Word → Type 0} {t t₂ : Text} {r : Refusal} → (Refuses es C t r → Refuses es₂ C₂ t₂ r) → Turns-back es C t r → Turns-back es₂ C₂ t₂ r
-turns f (by-rule p e h) = by-rule p e (f h)
-turns f (by-want e) = by-want e
+use Rattle.language.proofs.Sides.{variable-decides}
 
 module _ (vs : List Variable) (ts : List a-table) where
   known-alike : (a b : List Word) → Alike a b → Known vs ts b → Known vs ts a
@@ -224,9 +218,6 @@ module _ (vs : List Variable) (ts : List a-table) where
 
   pub body-choosing : (t : Text) (k : List Expect) (past : List Word) → first-is If t ≡ true → refusal (body ∷ k) past t ≡ refusal (choosing ++ (body ∷ k)) past t
   body-choosing t k past e = let h = first-mark If t e in ap (refusal (body ∷ k) past) (h .2) ∙ ap (refusal (choosing ++ (body ∷ k)) past) (sym (h .2))
-
-  abbrev pub is-condition : Condition → List Word → Type 0
-  is-condition c ws = (r : List Word) → Cond (ws ++ r) r c
 
   -- the drawing at the join of two blocks: the end of the first, and the drawing at the end of the second
   abbrev pub join : Place → ℕ → Drawing → Drawing

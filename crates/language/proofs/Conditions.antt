@@ -24,7 +24,7 @@ use Rattle.language.specs.Names.{rule, names-behind, is-variable, next-is-brac
 use Rattle.language.specs.Expected.{Expect, one, refusal, refuse}
 use Rattle.language.specs.Expected.Expect.{just, const, condition, operator, operand}
 use Rattle.language.specs.Expected.Terminal.{any-name}
-use Rattle.language.specs.Readings.{before, passed, first-is, first-names, Refuses, Anywhere, Alike, Over, Constant, Quiet, Compares, Asks, Known, Knows-asks, Knows-compares}
+use Rattle.language.specs.Readings.{before, passed, first-is, first-names, Refuses, Anywhere, Alike, Over, Constant, Quiet, is-operator, is-operand, is-condition, Compares, Asks, Known, Knows-asks, Knows-compares}
 use Rattle.language.specs.Readings.Compares.{c-less, c-less-equal, c-greater, c-greater-equal}
 use Rattle.language.specs.Readings.Asks.{behind-if, behind-while}
 use Rattle.language.proofs.Passing.{decided-word}
@@ -33,9 +33,6 @@ use Rattle.language.proofs.Numbers.{const-derived, const-alike, const-goes}
 use Rattle.language.proofs.Sides.{variable-decides}
 
 -- comparisons
-abbrev pub is-operator : Order → List Word → Type 0
-is-operator o ws = ((r : List Word) → Compare (ws ++ r) r o) × ((n : List ℕ) (p : Place) (past : List Word) → Compares n (passed ws (name n p ∷ past)))
-
 pub over-less : (p : Place) (t t₂ : Text) → t ≡ reads (mark Less p) t₂ → Over (operator ∷ []) Anywhere (is-operator below) t t₂
 over-less p t t₂ e =
     record { words = mark Less p ∷ []; joined = e; derived = ((λ r. less), (λ n q past. c-less)); alike = λ past c. record { vars = refl; tabs = refl; lev = refl }; goes = λ k past c. ap (refusal (operator ∷ k) past) e }
@@ -55,9 +52,6 @@ over-greater-equal p t t₂ e =
 pub refuses-operator : (t : Text) (r : Refusal) → first-is Less t ≡ false → first-is LessEqual t ≡ false → first-is Greater t ≡ false →
     Refuses (one GreaterEqual ∷ []) Anywhere t r → Refuses (operator ∷ []) Anywhere t r
 refuses-operator t r a b c h k past u = last-operator k past t a b c ∙ h k past u
-
-abbrev pub is-operand : Operand → List Word → Type 0
-is-operand v ws = (r : List Word) → Compared (ws ++ r) r v
 
 module _ (vs : List Variable) (ts : List a-table) where
   -- the second name of a condition: a variable, and not the first name
@@ -163,7 +157,7 @@ module _ (vs : List Variable) (ts : List a-table) where
         refuses-right r i k past y = left-decides true h k past y ∙ by .goes (operand ∷ k) (name n p ∷ past) tt ∙ i k _ (comparing past y)
 
         pub over-condition : (v : Operand) (t₃ : Text) → Over (operand ∷ []) (Knows-compares vs ts n) (is-operand v) t₂ t₃ →
-            Over (condition ∷ []) (Knows-asks vs ts) (λ ws. (r : List Word) → Cond (ws ++ r) r (compares n o v)) t t₃
+            Over (condition ∷ []) (Knows-asks vs ts) (is-condition (compares n o v)) t t₃
         over-condition v t₃ w =
             let xs = by .words in
             let ys = w .words in

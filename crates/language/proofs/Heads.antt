@@ -23,7 +23,7 @@ use Rattle.language.specs.Names.{rule, names-behind, next-is-bracket}
 use Rattle.language.specs.Expected.{Expect, one, step, refusal, refuse}
 use Rattle.language.specs.Expected.Expect.{just, heads, span}
 use Rattle.language.specs.Expected.Terminal.{any-name, any-number}
-use Rattle.language.specs.Readings.{before, passed, first-is, Refuses, Anywhere, Over, Quiet, Boundary, Known, Starts, Declares, Declared}
+use Rattle.language.specs.Readings.{before, passed, first-is, Refuses, Anywhere, Over, Quiet, is-span, Boundary, Known, Starts, Declares, Declared}
 use Rattle.language.specs.Readings.Boundary.{at-start, behind-semicolon}
 use Rattle.language.proofs.Passing.{pass-word, broken-word, decided-word}
 use Rattle.language.proofs.Steps.{before-++, passed-++, first-mark}
@@ -145,7 +145,7 @@ module _ (vs : List Variable) (ts : List a-table) where
           pub refuses-range : (r : Refusal) → Refuses (span ∷ []) Quiet t₃ r → Refuses varying (Starts vs ts 8) t r
           refuses-range r j k past y = at-range k past y ∙ j (one Semicolon ∷ k) _ (quiet-equals _ q)
 
-          module _ {g₂ : Range} {t₄ : Text} (o : Over (span ∷ []) Quiet (λ ws. (r : List Word) → Span (ws ++ r) r g₂) t₃ t₄) where
+          module _ {g₂ : Range} {t₄ : Text} (o : Over (span ∷ []) Quiet (is-span g₂) t₃ t₄) where
             behind-range : (k : List Expect) (past : List Word) → Starts vs ts 8 past → refusal (varying ++ k) past t ≡ refusal (one Semicolon ∷ k) (passed (o .words) (mark Equals q ∷ name n p ∷ mark Var v ∷ past)) t₄
             behind-range k past y = at-range k past y ∙ o .goes (one Semicolon ∷ k) _ (quiet-equals _ q)
 
@@ -251,7 +251,7 @@ module _ (vs : List Variable) (ts : List a-table) where
                   pub refuses-table-range : (r : Refusal) → Refuses (span ∷ []) Quiet t₆ r → Refuses tabling (Starts vs ts 8) t r
                   refuses-table-range r j k past y = at-table-range k past y ∙ j (one Semicolon ∷ k) _ (quiet-equals _ z)
 
-                  module _ {g₂ : Range} {t₇ : Text} (o : Over (span ∷ []) Quiet (λ ws. (r : List Word) → Span (ws ++ r) r g₂) t₆ t₇) where
+                  module _ {g₂ : Range} {t₇ : Text} (o : Over (span ∷ []) Quiet (is-span g₂) t₆ t₇) where
                     behind-table-range : (k : List Expect) (past : List Word) → Starts vs ts 8 past → refusal (tabling ++ k) past t ≡ refusal (one Semicolon ∷ k) (passed (o .words) (so-far past)) t₇
                     behind-table-range k past y = at-table-range k past y ∙ o .goes (one Semicolon ∷ k) _ (quiet-equals _ z)
 

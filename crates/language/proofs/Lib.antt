@@ -5,6 +5,7 @@ pub mod Drawings
 pub mod Keeping
 pub mod Verdicts
 pub mod Passing
+pub mod Turning
 pub mod Steps
 pub mod Numbers
 pub mod Sides

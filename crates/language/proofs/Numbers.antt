@@ -21,7 +21,7 @@ use Rattle.language.specs.Names.{rule, follows, falls-behind, signed as with-s
 use Rattle.language.specs.Expected.{Expect, one, refusal, refuse}
 use Rattle.language.specs.Expected.Expect.{just, span, const}
 use Rattle.language.specs.Expected.Terminal.{any-number}
-use Rattle.language.specs.Readings.{before, passed, first-is, said, Refuses, Anywhere, Alike, Over, Spells, Constant, Quiet}
+use Rattle.language.specs.Readings.{before, passed, first-is, said, Refuses, Anywhere, Alike, Over, Spells, Constant, Quiet, is-span}
 use Rattle.language.specs.Readings.Spells.{plain, signed}
 use Rattle.language.proofs.Passing.{pass-word, decided-word}
 use Rattle.language.proofs.Steps.{before-++, passed-++, plain-const, span-const}
@@ -116,7 +116,7 @@ module _ {a b : ℤ} {p q d : Place} {t t₁ t₂ t₃ : Text} (first : Constant
   pub span-falls : ltZ b a ≡ true → (k : List Expect) (past : List Word) → Quiet past → refusal (span ∷ k) past t ≡ refuse 9 q
   span-falls = span-decided true
 
-  pub span-over : ltZ b a ≡ false → Over (span ∷ []) Quiet (λ ws. (r : List Word) → Span (ws ++ r) r (record { low = a; high = b })) t t₃
+  pub span-over : ltZ b a ≡ false → Over (span ∷ []) Quiet (is-span (record { low = a; high = b })) t t₃
   span-over h =
       let xs = first .words in
       let ys = second .words in

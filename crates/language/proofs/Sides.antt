@@ -26,7 +26,7 @@ use Rattle.language.specs.Expected as expected
 use Rattle.language.specs.Expected.{Expect, one, step, refusal, refuse}
 use Rattle.language.specs.Expected.Expect.{just, span, right, behind-minus, behind-name}
 use Rattle.language.specs.Expected.Terminal.{any-name, any-number}
-use Rattle.language.specs.Readings.{before, passed, first-is, first-names, said, Refuses, Anywhere, Alike, Over, Quiet, Behind, Negates, Known, Knows-behind, Knows-negates}
+use Rattle.language.specs.Readings.{before, passed, first-is, first-names, said, Refuses, Anywhere, Alike, Over, Quiet, is-span, is-right, is-negative, is-index, Behind, Negates, Known, Knows-behind, Knows-negates}
 use Rattle.language.specs.Readings.Behind.{behind}
 use Rattle.language.specs.Readings.Negates.{negates}
 use Rattle.language.proofs.Passing.{pass-word, decided-word}
@@ -37,17 +37,6 @@ pub bracket-next : (t : Text) → next-is-bracket t ≡ first-is OpenBracket t
 bracket-next (ends p) = refl
 bracket-next (fails n p) = refl
 bracket-next (reads w t) = refl
-
-abbrev pub is-right : Side → List Word → Type 0
-is-right e ws = (r : List Word) → Right (ws ++ r) r e
-
--- behind a sign
-abbrev pub is-negative : Side → List Word → Type 0
-is-negative e ws = (q : Place) (r : List Word) → Right (mark Minus q ∷ (ws ++ r)) r e
-
--- the index of a table and its bracket
-abbrev pub is-index : List ℕ → Place → List Word → Type 0
-is-index i s ws = (t : List ℕ) (p q : Place) (r : List Word) → Right (name t p ∷ mark OpenBracket q ∷ (ws ++ r)) r (reading t i s)
 
 module _ (vs : List Variable) (ts : List a-table) where
   -- a name that has to be a variable's
@@ -152,7 +141,7 @@ module _ (vs : List Variable) (ts : List a-table) where
   quiet-sense : (past : List Word) (q : Place) → Quiet (mark Sense q ∷ past)
   quiet-sense past q = record { minus = refl; dots = refl; bracket = refl }
 
-  pub side-hear : (q : Place) (g : Range) (t t₁ t₂ : Text) → t ≡ reads (mark Hear q) t₁ → Over (span ∷ []) Quiet (λ ws. (r : List Word) → Span (ws ++ r) r g) t₁ t₂ →
+  pub side-hear : (q : Place) (g : Range) (t t₁ t₂ : Text) → t ≡ reads (mark Hear q) t₁ → Over (span ∷ []) Quiet (is-span g) t₁ t₂ →
       Over (right ∷ []) (Knows-behind vs ts Becomes) (is-right (any Heard g)) t t₂
   side-hear q g t t₁ t₂ f o =
       record {
@@ -163,7 +152,7 @@ module _ (vs : List Variable) (ts : List a-table) where
         goes = λ k past c. ap (refusal (right ∷ k) past) f ∙ o .goes k (mark Hear q ∷ past) (quiet-hear past q);
       }
 
-  pub side-sense : (q : Place) (g : Range) (t t₁ t₂ : Text) → t ≡ reads (mark Sense q) t₁ → Over (span ∷ []) Quiet (λ ws. (r : List Word) → Span (ws ++ r) r g) t₁ t₂ →
+  pub side-sense : (q : Place) (g : Range) (t t₁ t₂ : Text) → t ≡ reads (mark Sense q) t₁ → Over (span ∷ []) Quiet (is-span g) t₁ t₂ →
       Over (right ∷ []) (Knows-behind vs ts Becomes) (is-right (any Sensed g)) t t₂
   side-sense q g t t₁ t₂ f o =
       record {

@@ -17,7 +17,9 @@ use Rattle.words.specs.Words.Text.{ends, fails, reads}
 use Rattle.words.specs.Marks.{is}
 use Rattle.words.specs.declared.Mark.{Mark}
 use Rattle.words.specs.declared.Mark.the-variants.{Becomes, Dots, Less, LessEqual, Greater, GreaterEqual, Minus, OpenBrace, CloseBrace, OpenBracket, Semicolon, Var, Table, If, While}
-use Rattle.language.specs.Grammar.{Declaration, Condition, Statements, Heads, Cond, Body}
+use Rattle.language.specs.Grammar.{Declaration, Side, Order, Operand, Condition, Statements, Span, Right, Compare, Compared, Heads, Cond, Body}
+use Rattle.language.specs.Grammar.Side.{reading}
+use Rattle.language.specs.declared.Range.{Range}
 use Rattle.language.specs.Grammar.Statements.{choose}
 use Rattle.language.specs.Graphs.{Variable, Table as a-table, Drawing, variables, tables, var-names, table-names, draw}
 use Rattle.language.specs.Names.{follows, names-behind, level}
@@ -88,6 +90,27 @@ pub record Over (es : List Expect) (C D : List Word → Type 0) (t t₂ : Text) 
   pub alike : (past : List Word) → C past → Alike (passed words past) past
   pub goes : (k : List Expect) (past : List Word) → C past → refusal (es ++ k) past t ≡ refusal k (passed words past) t₂
 
+-- what words are by the grammar, whatever comes behind them
+abbrev pub is-span : Range → List Word → Type 0
+is-span g ws = (r : List Word) → Span (ws ++ r) r g
+
+abbrev pub is-right : Side → List Word → Type 0
+is-right a ws = (r : List Word) → Right (ws ++ r) r a
+
+-- a right side behind its sign
+abbrev pub is-negative : Side → List Word → Type 0
+is-negative a ws = (q : Place) (r : List Word) → Right (mark Minus q ∷ (ws ++ r)) r a
+
+-- a table read behind its opening bracket: the index, which stands at a place, and the closing bracket
+abbrev pub is-index : List ℕ → Place → List Word → Type 0
+is-index i s ws = (t : List ℕ) (p q : Place) (r : List Word) → Right (name t p ∷ mark OpenBracket q ∷ (ws ++ r)) r (reading t i s)
+
+abbrev pub is-operand : Operand → List Word → Type 0
+is-operand v ws = (r : List Word) → Compared (ws ++ r) r v
+
+abbrev pub is-condition : Condition → List Word → Type 0
+is-condition c ws = (r : List Word) → Cond (ws ++ r) r c
+
 -- [-] number, with the place of the digits
 pub data Spells : List Word → ℤ → Place → Type 0 where
   plain : {n : ℕ} {p : Place} → Spells (number n p ∷ []) (pos n) p
@@ -118,6 +141,10 @@ pub data Compares (n : List ℕ) : List Word → Type 0 where
   c-less-equal : {p q : Place} {past : List Word} → Compares n (mark LessEqual p ∷ name n q ∷ past)
   c-greater : {p q : Place} {past : List Word} → Compares n (mark Greater p ∷ name n q ∷ past)
   c-greater-equal : {p q : Place} {past : List Word} → Compares n (mark GreaterEqual p ∷ name n q ∷ past)
+
+-- a comparison, behind which a condition goes on
+abbrev pub is-operator : Order → List Word → Type 0
+is-operator o ws = ((r : List Word) → Compare (ws ++ r) r o) × ((n : List ℕ) (p : Place) (past : List Word) → Compares n (passed ws (name n p ∷ past)))
 
 -- a condition stands behind `if` or `while`
 pub data Asks : List Word → Type 0 where

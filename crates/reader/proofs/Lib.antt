@@ -1,3 +1,4 @@
 pub mod Exits
 pub mod Sentences
 pub mod Naming
+pub mod Siding

@@ -2,6 +2,7 @@
 ghost use mathlib.Core.Path.{_≡_};
 ghost use mathlib.Core.List.{[], _∷_};
 ghost use lib.Dec.{eqb};
+ghost use lib.IntN.{pos, negℤ};
 ghost use Rattle.std.specs.Results.{Cases};
 ghost use Rattle.words.specs.Words.{text};
 ghost use Rattle.words.specs.Words.Text.{ends, reads};
@@ -43,6 +44,13 @@ fn unexpected(found: Found) -> Refusal
             Refusal::at(Reason::Unexpected, place)
         }
     }
+}
+
+// The negative of a number.
+pub fn negative(n: u32) -> i64
+    ensures { λ r. ⌜ r ≡ negℤ (pos n) ⌝ }
+{
+    -(n as i64)
 }
 
 impl<'a> Sentence<'a> {
@@ -137,10 +145,10 @@ impl<'a> Sentence<'a> {
         if self.at(Mark::Minus) {
             let _ = self.take();
             let (n, place) = self.number()?;
-            Ok((-(n as i64), place))
+            Ok((negative(n), place))
         } else {
             let (n, place) = self.number()?;
-            Ok((n as i64, place))
+            Ok((i64::from(n), place))
         }
     }
 }

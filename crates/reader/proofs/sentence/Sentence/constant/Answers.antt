@@ -1,7 +1,10 @@
-use mathlib.Core.Path.{_≡_, sym}
-use native.Mathlib.Omega.{arith}
-use borrow.Author.Differences.{ints}
-use Rattle.language.proofs.Bodies.{turns}
+use mathlib.Core.Path.{_≡_, sym, _∙_}
+use lib.IntN.{pos, negℤ}
+use borrow.Author.Needs.{needs}
+use Rattle.std.proofs.shelf.Signed.{toZ-ofZ}
+use mir.Val.{toZ, ofZ}
+use mir.Syntax.{w64}
+use Rattle.language.proofs.Turning.{turns}
 use Rattle.language.proofs.Numbers.{constant-plain, constant-signed, refuses-plain, refuses-signed}
 use Rattle.words.specs.declared.Mark.the-variants.{Minus}
 use Rattle.reader.specs.Models.{left}
@@ -23,7 +26,10 @@ returns-in-Break-n-2 c =
 pub returns-in-Continue-n : need.returns-in-Continue-n
 returns-in-Continue-n c =
     let m = taken-mark Minus _ (left (c .args .self .now)) (left (c .take .last .self)) (c .take .ensures) (sym (c .if-at .ensures tt)) in
-    constant-signed (c .in-Continue-n .n) _ (m .0) _ _ _ _ (omega (arith, ints)) (m .1) (c .in-Continue-n .ensures tt)
+    let z : toZ w64 (ofZ w64 (c .negative .result)) ≡ negℤ (pos (c .in-Continue-n .n)) = toZ-ofZ w64 (c .negative .result) (search needs) ∙ c .negative .ensures in
+    constant-signed (c .in-Continue-n .n) _ (m .0) _ _ _ _ z (m .1) (c .in-Continue-n .ensures tt)
 
 pub returns-in-Continue-n-2 : need.returns-in-Continue-n-2
-returns-in-Continue-n-2 c = constant-plain (c .in-Continue-n-2 .n) _ _ _ _ (omega (arith, ints)) (c .in-Continue-n-2 .ensures tt)
+returns-in-Continue-n-2 c =
+    let z : toZ w64 (ofZ w64 (c .from .result)) ≡ pos (c .in-Continue-n-2 .n) = toZ-ofZ w64 (c .from .result) (search needs) ∙ c .from .ensures in
+    constant-plain (c .in-Continue-n-2 .n) _ _ _ _ z (c .in-Continue-n-2 .ensures tt)
