@@ -2,7 +2,10 @@
 use mathlib.Core.Path.{_≡_, refl, sym, ap, subst, _∙_}
 use mathlib.Core.Bool.{Bool, true, false}
 use mathlib.Core.List.{List, [], _∷_, _++_}
-use Prim.Native.Nat.{ℕ}
+use Prim.Native.Nat.{ℕ, _<_, _^_}
+use lib.IntN.{pos, negℤ}
+use native.Mathlib.Omega.{arith}
+use borrow.Author.Differences.{ints}
 use lib.Dec.{eqb}
 use denote.Ref.{RefT}
 use Rattle.std.specs.declared.option.Option.{Option}
@@ -28,7 +31,7 @@ use Rattle.language.specs.Expected.Terminal.{any-name, any-number}
 use Rattle.language.specs.Readings.{first-is, said, Anywhere, Turns-back, Unended}
 use Rattle.language.specs.Readings.Turns-back.{by-rule, by-want}
 use Rattle.language.proofs.Passing.{unfit-word}
-use Rattle.reader.specs.Models.{unfit}
+use Rattle.reader.specs.Models.{unfit, Small}
 
 unfit-place : (f : Found) → (p : Place) × (unfit f .place ≡ Some p)
 unfit-place (Name bs p) = (p, refl)
@@ -95,3 +98,10 @@ no-name (Number m p) t n k past = refl
 no-name (Sign m p) t n k past = refl
 no-name (Fault r p) t n k past = refl
 no-name (End p) t n k past = refl
+
+-- numbers of 32 bits, and their negatives
+pub small-plain : (n : ℕ) → n < 2 ^ 32 → Small (pos n)
+small-plain n h = (omega (arith, ints), omega (arith, ints))
+
+pub small-negative : (n : ℕ) → n < 2 ^ 32 → Small (negℤ (pos n))
+small-negative n h = (omega (arith, ints), omega (arith, ints))

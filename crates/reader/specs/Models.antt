@@ -3,6 +3,7 @@ use mathlib.Core.List.{List, [], _∷_, map}
 use Prim.Native.Nat.{ℕ}
 use lib.IntN.{ℤ, pos, negsuc, _+ℤ_, _-ℤ_}
 use lib.ListN.{getD}
+use lib.Signed.{_≤ℤ_}
 use Rattle.std.specs.Of.Vec.{vec-items}
 use Rattle.refusal.specs.declared.Place.{Place}
 use Rattle.refusal.specs.declared.Refusal.{Refusal}
@@ -43,6 +44,10 @@ unfit (Sign m p) = located Unexpected p
 unfit (Fault r p) = located r p
 unfit (End p) = located Unexpected p
 
+-- a constant with room above and below
+abbrev pub Small : ℤ → Type 0
+Small c = (negsuc 4294967295 ≤ℤ c) × (c ≤ℤ pos 4294967295)
+
 -- variables and tables, with their names as lists of bytes
 abbrev pub variable-of : Variable → graphs.Variable
 variable-of v = record { name = vec-items (v .name); range = v .range }
@@ -61,6 +66,12 @@ abbrev pub drawn-so : Drawing → graphs.Drawing
 drawn-so d = record { points = d .points; now = d .here; edges = vec-items (d .edges); lookups = vec-items (d .lookups) }
 
 -- Right sides and conditions by the numbers of their names.
+abbrev pub order-of : grammar.Order → Order
+order-of grammar.Order.below = Below
+order-of grammar.Order.at-most = AtMost
+order-of grammar.Order.above = Above
+order-of grammar.Order.at-least = AtLeast
+
 module _ (vs : List graphs.Variable) (ts : List graphs.Table) where
   abbrev pub side-of : grammar.Side → Side
   side-of (grammar.Side.constant c) = Constant c
@@ -68,12 +79,6 @@ module _ (vs : List graphs.Variable) (ts : List graphs.Table) where
   side-of (grammar.Side.negated i) = Negated (var-number vs ts i)
   side-of (grammar.Side.any s g) = Any s g
   side-of (grammar.Side.reading t i p) = Reading (table-number vs ts t) (var-number vs ts i) p
-
-  abbrev pub order-of : grammar.Order → Order
-  order-of grammar.Order.below = Below
-  order-of grammar.Order.at-most = AtMost
-  order-of grammar.Order.above = Above
-  order-of grammar.Order.at-least = AtLeast
 
   abbrev pub operand-of : grammar.Operand → Operand
   operand-of (grammar.Operand.against k) = Against (var-number vs ts k)
@@ -104,6 +109,10 @@ guard-of i Below (Against k) = Before i k (negsuc 0)
 guard-of i AtMost (Against k) = Before i k (pos 0)
 guard-of i Above (Against k) = Before k i (negsuc 0)
 guard-of i AtLeast (Against k) = Before k i (pos 0)
+
+abbrev pub Small-operand : Operand → Type 0
+Small-operand (Against k) = Unit {0}
+Small-operand (Limit c) = Small c
 
 abbrev pub opposite-of : Order → Order
 opposite-of Below = AtLeast

@@ -1,5 +1,13 @@
 // Conditions, and the guards that they become.
+ghost use mathlib.Core.Path.{_≡_};
+ghost use mathlib.Core.List.{[], _∷_};
+ghost use Rattle.std.specs.Results.{Cases};
+ghost use Rattle.language.specs.Grammar as grammar;
+ghost use Rattle.language.specs.Expected.Expect.{condition, operator, operand};
+ghost use Rattle.language.specs.Readings.{Anywhere, Turns-back, Over, Knows-asks, Knows-compares, is-operator, is-operand, is-condition};
+ghost use Rattle.reader.specs.Models.{left as left-of, vars-of, tabs-of, order-of, operand-of, condition-of, guard-of, opposite-of, Small-operand};
 use crate::names::Names;
+use crate::names::same_name;
 use crate::sentence::Sentence;
 use language::Action;
 use refusal::Reason;
@@ -29,7 +37,9 @@ pub struct Condition {
 }
 
 // Takes a condition.
-pub fn read_condition(s: &mut Sentence, names: &Names) -> Result<Condition, Refusal> {
+pub fn read_condition(s: &mut Sentence, names: &Names) -> Result<Condition, Refusal>
+    ensures { λ r. ⌜ Cases r (λ x. (a : grammar.Condition) × (x ≡ condition-of (vars-of (now (names .entry))) (tabs-of (now (names .entry))) a) × Small-operand (x .right) × Over (condition ∷ []) (Knows-asks (vars-of (now (names .entry))) (tabs-of (now (names .entry)))) (is-condition a) (left-of (now (s .entry))) (left-of (now (s .exit)))) (λ e. Turns-back (condition ∷ []) (Knows-asks (vars-of (now (names .entry))) (tabs-of (now (names .entry)))) (left-of (now (s .entry))) e) ⌝ }
+{
     let (name, place) = s.name()?;
     let left = names.variable(name, place)?;
     let order = read_operator(s)?;
@@ -37,7 +47,10 @@ pub fn read_condition(s: &mut Sentence, names: &Names) -> Result<Condition, Refu
     Ok(Condition { left, order, right })
 }
 
-fn read_operator(s: &mut Sentence) -> Result<Order, Refusal> {
+// Takes a comparison.
+fn read_operator(s: &mut Sentence) -> Result<Order, Refusal>
+    ensures { λ r. ⌜ Cases r (λ x. (o : grammar.Order) × (x ≡ order-of o) × Over (operator ∷ []) Anywhere (is-operator o) (left-of (now (s .entry))) (left-of (now (s .exit)))) (λ e. Turns-back (operator ∷ []) Anywhere (left-of (now (s .entry))) e) ⌝ }
+{
     if s.at(Mark::Less) {
         let _ = s.take();
         return Ok(Order::Below);
@@ -55,11 +68,13 @@ fn read_operator(s: &mut Sentence) -> Result<Order, Refusal> {
 }
 
 // Takes what the variable of the name `left` is compared with.
-fn read_operand(s: &mut Sentence, names: &Names, left: &[u8]) -> Result<Operand, Refusal> {
+fn read_operand(s: &mut Sentence, names: &Names, left: &[u8]) -> Result<Operand, Refusal>
+    ensures { λ r. ⌜ Cases r (λ x. (v : grammar.Operand) × (x ≡ operand-of (vars-of (now (names .entry))) (tabs-of (now (names .entry))) v) × Small-operand x × Over (operand ∷ []) (Knows-compares (vars-of (now (names .entry))) (tabs-of (now (names .entry))) (now (left .entry))) (is-operand v) (left-of (now (s .entry))) (left-of (now (s .exit)))) (λ e. Turns-back (operand ∷ []) (Knows-compares (vars-of (now (names .entry))) (tabs-of (now (names .entry))) (now (left .entry))) (left-of (now (s .entry))) e) ⌝ }
+{
     if s.at_name() {
         let (name, place) = s.name()?;
         let k = names.variable(name, place)?;
-        if name == left {
+        if same_name(name, left) {
             return Err(Refusal::at(Reason::SameName, place));
         }
         return Ok(Operand::Against(k));
@@ -69,7 +84,10 @@ fn read_operand(s: &mut Sentence, names: &Names, left: &[u8]) -> Result<Operand,
 }
 
 impl Order {
-    fn opposite(self) -> Order {
+    // The order that holds where this one does not.
+    fn opposite(self) -> Order
+        ensures { λ r. ⌜ r ≡ opposite-of self ⌝ }
+    {
         match self {
             Order::Below => Order::AtLeast,
             Order::AtMost => Order::Above,
@@ -81,17 +99,24 @@ impl Order {
 
 impl Condition {
     // The guard of the edge on which the condition holds.
-    pub fn holds(self) -> Action {
+    pub fn holds(self) -> Action
+        ensures { λ r. ⌜ (Small-operand (self .right) → r ≡ guard-of (self .left) (self .order) (self .right)) ⌝ }
+    {
         guard(self.left, self.order, self.right)
     }
 
     // The guard of the edge on which it fails.
-    pub fn fails(self) -> Action {
+    pub fn fails(self) -> Action
+        ensures { λ r. ⌜ (Small-operand (self .right) → r ≡ guard-of (self .left) (opposite-of (self .order)) (self .right)) ⌝ }
+    {
         guard(self.left, self.order.opposite(), self.right)
     }
 }
 
-fn guard(i: usize, order: Order, right: Operand) -> Action {
+// The guard of a comparison; a strict one against a constant moves it by one.
+fn guard(i: usize, order: Order, right: Operand) -> Action
+    ensures { λ r. ⌜ (Small-operand right → r ≡ guard-of i order right) ⌝ }
+{
     match right {
         Operand::Against(k) => match order {
             Order::Below => Action::Before(i, k, -1),

@@ -35,6 +35,9 @@ pub struct Table {
 // A script has at most this many bytes.
 pub const MOST_BYTES: usize = 8192;
 
+// Points are numbered from 0 up to, and without, this number.
+pub const MOST_POINTS: usize = 96;
+
 // The graph of a script, or why and where the text is none.
 pub fn read(heap: Global, script: &[u8]) -> Result<Graph, Refusal> {
     if script.len() > MOST_BYTES {
@@ -48,6 +51,8 @@ pub fn read(heap: Global, script: &[u8]) -> Result<Graph, Refusal> {
     let mut drawing = Drawing::new(heap);
     statements::read_statements(&mut sentence, &names, &mut drawing, 8)?;
     sentence.end()?;
-    drawing.within_limit()?;
+    if let Some(place) = drawing.maker(MOST_POINTS) {
+        return Err(Refusal::at(Reason::TooManyPoints, place));
+    }
     graph::finish(heap, names, drawing)
 }

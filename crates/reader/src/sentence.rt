@@ -4,6 +4,7 @@ ghost use mathlib.Core.List.{[], _∷_};
 ghost use lib.Dec.{eqb};
 ghost use lib.IntN.{pos, negℤ};
 ghost use Rattle.std.specs.Results.{Cases};
+ghost use Rattle.std.specs.Vec.{made};
 ghost use Rattle.words.specs.Words.{text};
 ghost use Rattle.words.specs.Words.Text.{ends, reads};
 ghost use Rattle.words.specs.Words.Word.{name, number, mark as sign};
@@ -13,7 +14,7 @@ ghost use Rattle.language.specs.Expected.{one};
 ghost use Rattle.language.specs.Expected.Expect.{just, const};
 ghost use Rattle.language.specs.Expected.Terminal.{any-name, any-number};
 ghost use Rattle.language.specs.Readings.{first-is, first-names, Anywhere, Turns-back, Unended, Constant};
-ghost use Rattle.reader.specs.Models.{left, unfit};
+ghost use Rattle.reader.specs.Models.{left, unfit, Small};
 use refusal::Place;
 use refusal::Reason;
 use refusal::Refusal;
@@ -140,7 +141,8 @@ impl<'a> Sentence<'a> {
 
     // Takes [-] number; the place is that of the digits.
     pub fn constant(&mut self) -> Result<(i64, Place), Refusal>
-        ensures { λ r. ⌜ Cases r (λ x. Constant (x .0) (x .1) (left (now (self .entry))) (left (now (self .exit)))) (λ e. Turns-back (const ∷ []) Anywhere (left (now (self .entry))) e) ⌝ }
+        ensures read { λ r. ⌜ Cases r (λ x. Constant (x .0) (x .1) (left (now (self .entry))) (left (now (self .exit)))) (λ e. Turns-back (const ∷ []) Anywhere (left (now (self .entry))) e) ⌝ }
+        ensures small { λ r. ⌜ made r (λ x. Small (x .0)) ⌝ }
     {
         if self.at(Mark::Minus) {
             let _ = self.take();

@@ -104,24 +104,30 @@ fn read_choice(
     d.onward(c.holds(), place)?;
     read_block(s, names, d, levels)?;
     let first = d.here;
-    d.here = start;
+    d.stand(start);
     d.onward(c.fails(), place)?;
+    read_else(s, names, d, levels)?;
+    join(d, first, place)
+}
+
+// Takes [else block].
+fn read_else(s: &mut Sentence, names: &Names, d: &mut Drawing, levels: u8) -> Result<(), Refusal> {
     if s.at(Mark::Else) {
         let _ = s.take();
-        read_block(s, names, d, levels)?;
+        return read_block(s, names, d, levels);
     }
-    join(d, first, place)
+    Ok(())
 }
 
 // A fresh point with skips from the end of the first block and from here.
 fn join(d: &mut Drawing, first: usize, place: Place) -> Result<(), Refusal> {
     let second = d.here;
-    d.here = first;
+    d.stand(first);
     d.onward(Action::Skip, place)?;
     let joined = d.here;
-    d.here = second;
+    d.stand(second);
     d.back(joined, place)?;
-    d.here = joined;
+    d.stand(joined);
     Ok(())
 }
 
@@ -139,7 +145,7 @@ fn read_repetition(
     d.onward(c.holds(), place)?;
     read_block(s, names, d, levels)?;
     d.back(head, place)?;
-    d.here = head;
+    d.stand(head);
     d.onward(c.fails(), place)
 }
 

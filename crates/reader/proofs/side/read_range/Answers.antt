@@ -23,23 +23,23 @@ use Rattle.reader.proofs.side.read_range.Needs as need
 pub returns-in-Break-low : need.returns-in-Break-low
 returns-in-Break-low c =
     handed-on _ _ (c .from-residual .result) _ (c .from-residual .ensures .1)
-    (turns (λ h k past y. span-const k past (left (c .args .s .now)) ∙ h (one Dots ∷ const ∷ k) past tt) (c .in-Break-low .ensures tt))
+    (turns (λ h k past y. span-const k past (left (c .args .s .now)) ∙ h (one Dots ∷ const ∷ k) past tt) (c .in-Break-low .ensures tt .read))
 
 pub returns-in-Break-mark : need.returns-in-Break-mark
 returns-in-Break-mark c =
     handed-on _ _ (c .from-residual-in-Break-mark .result) _ (c .from-residual-in-Break-mark .ensures .1)
-    (turns (λ h k past y. span-first (c .in-Continue-low .ensures tt) k past y ∙ h (const ∷ k) _ tt) (c .in-Break-mark .ensures tt))
+    (turns (λ h k past y. span-first (c .in-Continue-low .ensures tt .read) k past y ∙ h (const ∷ k) _ tt) (c .in-Break-mark .ensures tt))
 
 pub returns-in-Break-high : need.returns-in-Break-high
 returns-in-Break-high c =
     handed-on _ _ (c .from-residual-in-Break-high .result) _ (c .from-residual-in-Break-high .ensures .1)
-    (turns (λ h k past y. span-second (c .in-Continue-low .ensures tt) (c .in-Continue-mark .ensures tt) k past y ∙ h k _ tt) (c .in-Break-high .ensures tt))
+    (turns (λ h k past y. span-second (c .in-Continue-low .ensures tt .read) (c .in-Continue-mark .ensures tt) k past y ∙ h k _ tt) (c .in-Break-high .ensures tt .read))
 
 pub returns-then-high-low : need.returns-then-high-low
 returns-then-high-low c =
     let h : ltZ (c .in-Continue-high .high) (c .in-Continue-low .low) ≡ true = grind (arith, ints) in
     turns-at (span ∷ []) Quiet _ _ RangeFalls _ (c .at .ensures)
-    (span-falls (c .in-Continue-low .ensures tt) (c .in-Continue-mark .ensures tt) (c .in-Continue-high .ensures tt) h)
+    (span-falls (c .in-Continue-low .ensures tt .read) (c .in-Continue-mark .ensures tt) (c .in-Continue-high .ensures tt .read) h)
 
 pub returns : need.returns
 returns c =
@@ -49,4 +49,4 @@ returns c =
     let a : low ≡ toZ w64 (ofZ w64 low) = omega (arith, ints) in
     let b : high ≡ toZ w64 (ofZ w64 high) = omega (arith, ints) in
     subst (λ (g : Range). Over (span ∷ []) Quiet (is-span g) (left (c .args .s .now)) (left (c .constant-2 .last .self))) (λ i. record { low = a i; high = b i })
-    (span-over (c .in-Continue-low .ensures tt) (c .in-Continue-mark .ensures tt) (c .in-Continue-high .ensures tt) h)
+    (span-over (c .in-Continue-low .ensures tt .read) (c .in-Continue-mark .ensures tt) (c .in-Continue-high .ensures tt .read) h)
