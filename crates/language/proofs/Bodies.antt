@@ -5,6 +5,7 @@ use mathlib.Core.List.{List, [], _∷_, _++_, append-assoc}
 use Prim.Native.Nat.{ℕ, suc, _+_, _≤_, _<_}
 use native.Mathlib.Omega.{arith}
 use lib.Dec.{leb}
+use lib.ListN.{length, length-append}
 use Rattle.std.proofs.shelf.Tests.{false≢true, lt-leb, le-leb}
 use Rattle.refusal.specs.declared.Place.{Place}
 use Rattle.refusal.specs.declared.Refusal.{Refusal}
@@ -20,15 +21,16 @@ use Rattle.language.specs.Grammar.Statements.{done, assign, choose, repeat}
 use Rattle.language.specs.Grammar.Body.{no-stmt, assignment, if-stmt, if-else-stmt, while-stmt}
 use Rattle.language.specs.Graphs.{Variable, Table as a-table, Drawing, var-names, var-number, fresh, back, stand, holds, fails as negation, draw-assign, draw}
 use Rattle.language.specs.Names.{rule, is-variable, level, next-is-bracket}
+use Rattle.language.specs.Rules.{words}
 use Rattle.language.specs.Expected.{Expect, one, refusal, refuse}
 use Rattle.language.specs.Expected.Expect.{just, body, condition, block, else-part, right}
 use Rattle.language.specs.Expected.Terminal.{any-name}
-use Rattle.language.specs.Readings.{before, passed, first-is, first-names, begins-statement, Refuses, Anywhere, Alike, Over, is-right, is-condition, Boundary, Known, Knows-behind, Knows-asks, Starts, Inner, Stated, Blocked, Elsed}
+use Rattle.language.specs.Readings.{before, passed, first-is, first-names, begins-statement, Refuses, Anywhere, Alike, Over, is-right, is-condition, Boundary, Known, Knows-behind, Knows-asks, Starts, Inner, Stated, Statement, Blocked, Elsed, assigning, choosing, repeating, joined-at}
 use Rattle.language.specs.Readings.Behind.{behind}
 use Rattle.language.specs.Readings.Asks.{behind-if, behind-while}
 use Rattle.language.specs.Readings.Boundary.{at-start, behind-semicolon, behind-open, behind-close}
 use Rattle.language.proofs.Passing.{decided-word}
-use Rattle.language.proofs.Steps.{before-++, passed-++, first-mark, first-name, alike-name, alike-then, no-statement, no-else, block-brace}
+use Rattle.language.proofs.Steps.{before-++, passed-++, words-before, first-mark, first-name, alike-name, alike-then, no-statement, no-else, block-brace}
 use Rattle.language.proofs.Sides.{variable-decides}
 
 module _ (vs : List Variable) (ts : List a-table) where
@@ -54,6 +56,19 @@ module _ (vs : List Variable) (ts : List a-table) where
         goes = λ k past z. x .goes k past z ∙ y .goes k (passed xs past) (x .stays past z) ∙ ap (λ (p : List Word). refusal (body ∷ k) p t₂) (sym (passed-++ xs ys past));
       }
 
+  -- a statement has a first word
+  one-or-more : {l : ℕ} {t t₂ : Text} {d d₂ : Drawing} (w : Word) (ws : List Word) (s : Stated vs ts l t t₂ d d₂) → s .words ≡ w ∷ ws → Statement vs ts l t t₂ d d₂
+  one-or-more w ws s e = record { stated = s; some = let h = ap length e in omega arith }
+
+  -- what is left is shorter behind a statement
+  pub shorter : {l : ℕ} {t t₂ : Text} {d d₂ : Drawing} → Statement vs ts l t t₂ d d₂ → length (words t₂) < length (words t)
+  shorter {t = t} {t₂ = t₂} s =
+      let xs = s .stated .words in
+      let e = ap length (ap words (s .stated .joined) ∙ words-before xs t₂) in
+      let a = length-append xs (words t₂) in
+      let h = s .some in
+      omega arith
+
   -- assignments
   boundary-rule : {past : List Word} → Boundary past → (n : List ℕ) (p : Place) (b : Bool) → rule past (name n p) b ≡ cond (not (is-variable n past)) 8 0
   boundary-rule at-start n p b = refl
@@ -66,9 +81,6 @@ module _ (vs : List Variable) (ts : List a-table) where
   boundary-alike (behind-semicolon {p = a} {past = past}) n p = alike-name n p (mark Semicolon a ∷ past) refl refl
   boundary-alike (behind-open {p = a} {past = past}) n p = alike-name n p (mark OpenBrace a ∷ past) refl refl
   boundary-alike (behind-close {p = a} {past = past}) n p = alike-name n p (mark CloseBrace a ∷ past) refl refl
-
-  abbrev pub assigning : List Expect
-  assigning = just any-name ∷ one Becomes ∷ right ∷ one Semicolon ∷ []
 
   pub body-assigning : (t : Text) (k : List Expect) (past : List Word) → first-names t ≡ true → refusal (body ∷ k) past t ≡ refusal (assigning ++ (body ∷ k)) past t
   body-assigning t k past e = let h = first-name t e in ap (refusal (body ∷ k) past) (h .3) ∙ ap (refusal (assigning ++ (body ∷ k)) past) (sym (h .3))
@@ -101,10 +113,10 @@ module _ (vs : List Variable) (ts : List a-table) where
           pub refuses-semicolon : (r : Refusal) → Refuses (one Semicolon ∷ []) Anywhere t₃ r → Refuses assigning (Starts vs ts l) t r
           refuses-semicolon r i k past y = becoming k past y ∙ o .goes (one Semicolon ∷ k) _ (begun past y) ∙ i k _ tt
 
-          pub stated-assign : (s : Place) (t₄ : Text) (d d₂ : Drawing) → t₃ ≡ reads (mark Semicolon s) t₄ → d₂ ≡ draw-assign vs ts p (var-number vs ts n) a d → Stated vs ts l t t₄ d d₂
+          pub stated-assign : (s : Place) (t₄ : Text) (d d₂ : Drawing) → t₃ ≡ reads (mark Semicolon s) t₄ → d₂ ≡ draw-assign vs ts p (var-number vs ts n) a d → Statement vs ts l t t₄ d d₂
           stated-assign s t₄ d d₂ g i =
               let ws = o .words in
-              record {
+              one-or-more (name n p) (mark Becomes q ∷ (ws ++ (mark Semicolon s ∷ []))) (record {
                 words = name n p ∷ mark Becomes q ∷ (ws ++ (mark Semicolon s ∷ []));
                 joined = e ∙ ap (reads (name n p)) (f ∙ ap (reads (mark Becomes q)) (o .joined ∙ ap (before ws) g ∙ sym (before-++ ws (mark Semicolon s ∷ []) t₄)));
                 more = assign p n a;
@@ -115,7 +127,7 @@ module _ (vs : List Variable) (ts : List a-table) where
                     body-assigning t k past (ap first-names e) ∙ becoming (body ∷ k) past y ∙ o .goes (one Semicolon ∷ body ∷ k) _ (begun past y) ∙
                     ap (refusal (one Semicolon ∷ body ∷ k) (passed ws (mark Becomes q ∷ name n p ∷ past))) g ∙
                     ap (λ (z : List Word). refusal (body ∷ k) z t₄) (sym (passed-++ ws (mark Semicolon s ∷ []) (mark Becomes q ∷ name n p ∷ past)));
-              }
+              }) refl
             where
               over : (past : List Word) → Starts vs ts l past → Starts vs ts l (mark Semicolon s ∷ passed (o .words) (mark Becomes q ∷ name n p ∷ past))
               over past y =
@@ -213,17 +225,8 @@ module _ (vs : List Variable) (ts : List a-table) where
   refuses-else l q t t₁ r e i k past y = ap (refusal (else-part ∷ k) past) e ∙ i k (mark Else q ∷ past) (else-inner l q past y)
 
   -- if
-  abbrev pub choosing : List Expect
-  choosing = one If ∷ condition ∷ block ∷ else-part ∷ []
-
   pub body-choosing : (t : Text) (k : List Expect) (past : List Word) → first-is If t ≡ true → refusal (body ∷ k) past t ≡ refusal (choosing ++ (body ∷ k)) past t
   body-choosing t k past e = let h = first-mark If t e in ap (refusal (body ∷ k) past) (h .2) ∙ ap (refusal (choosing ++ (body ∷ k)) past) (sym (h .2))
-
-  -- the drawing at the join of two blocks: the end of the first, and the drawing at the end of the second
-  abbrev pub join : Place → ℕ → Drawing → Drawing
-  join p first d =
-      let joined = fresh Skip p (stand first d) in
-      stand (joined .now) (back Skip p (joined .now) (stand (d .now) joined))
 
   module _ {l : ℕ} {p : Place} {t t₁ : Text} (e : t ≡ reads (mark If p) t₁) where
     asking : (past : List Word) → Starts vs ts l past → Knows-asks vs ts (mark If p ∷ past)
@@ -249,14 +252,14 @@ module _ (vs : List Variable) (ts : List a-table) where
         refuses-second r i k past y = asked k past y ∙ b .goes (else-part ∷ k) _ (inner past y) ∙ i k _ (b .stays _ (inner past y))
 
         pub stated-choice : (t₄ : Text) (d d₃ d₄ d₅ : Drawing) → Elsed vs ts l t₃ t₄ d₃ d₄ → d₁ ≡ fresh (holds (var-number vs ts) c) p d →
-            d₃ ≡ fresh (negation (var-number vs ts) c) p (stand (d .now) d₂) → d₅ ≡ join p (d₂ .now) d₄ → Stated vs ts l t t₄ d d₅
+            d₃ ≡ fresh (negation (var-number vs ts) c) p (stand (d .now) d₂) → d₅ ≡ joined-at p (d₂ .now) d₄ → Statement vs ts l t t₄ d d₅
         stated-choice t₄ d d₃ d₄ d₅ s f g h =
             let cw = o .words in
             let bw = b .inside in
             let ew = s .words in
             let tail = mark CloseBrace (b .closed) ∷ ew in
             let block-words = mark OpenBrace (b .opened) ∷ (bw ++ tail) in
-            record {
+            one-or-more (mark If p) (cw ++ block-words) (record {
               words = mark If p ∷ (cw ++ block-words);
               joined = e ∙ ap (reads (mark If p))
                   (o .joined ∙ ap (before cw) (b .joined ∙ ap (reads (mark OpenBrace (b .opened))) (ap (λ (z : Text). before bw (reads (mark CloseBrace (b .closed)) z)) (s .joined) ∙ sym (before-++ bw tail t₄))) ∙
@@ -270,7 +273,7 @@ module _ (vs : List Variable) (ts : List a-table) where
               goes = λ k past y.
                   body-choosing t k past (ap (first-is If) e) ∙ asked (body ∷ k) past y ∙ b .goes (else-part ∷ body ∷ k) _ (inner past y) ∙ s .goes (body ∷ k) _ (b .stays _ (inner past y)) ∙
                   ap (λ (z : List Word). refusal (body ∷ k) z t₄) (sym (pasts cw bw ew past));
-            }
+            }) refl
           where
             joins : (cw bw ew r₀ : List Word) →
                 (cw ++ (mark OpenBrace (b .opened) ∷ (bw ++ (mark CloseBrace (b .closed) ∷ ew)))) ++ r₀ ≡ cw ++ (mark OpenBrace (b .opened) ∷ (bw ++ (mark CloseBrace (b .closed) ∷ (ew ++ r₀))))
@@ -284,15 +287,12 @@ module _ (vs : List Variable) (ts : List a-table) where
                 passed-++ bw (mark CloseBrace (b .closed) ∷ ew) (mark OpenBrace (b .opened) ∷ passed cw (mark If p ∷ past))
 
             drawn : let x : Drawing = draw vs ts (b .tree) (fresh (holds (var-number vs ts) c) p d) in
-                join p (x .now) (draw vs ts (s .tree) (fresh (negation (var-number vs ts) c) p (stand (d .now) x))) ≡ join p (d₂ .now) d₄
+                joined-at p (x .now) (draw vs ts (s .tree) (fresh (negation (var-number vs ts) c) p (stand (d .now) x))) ≡ joined-at p (d₂ .now) d₄
             drawn =
-                let then : Drawing → Drawing = λ x. join p (x .now) (draw vs ts (s .tree) (fresh (negation (var-number vs ts) c) p (stand (d .now) x))) in
-                ap then (ap (draw vs ts (b .tree)) (sym f) ∙ b .draws) ∙ ap (λ (x : Drawing). join p (d₂ .now) (draw vs ts (s .tree) x)) (sym g) ∙ ap (join p (d₂ .now)) (s .draws)
+                let then : Drawing → Drawing = λ x. joined-at p (x .now) (draw vs ts (s .tree) (fresh (negation (var-number vs ts) c) p (stand (d .now) x))) in
+                ap then (ap (draw vs ts (b .tree)) (sym f) ∙ b .draws) ∙ ap (λ (x : Drawing). joined-at p (d₂ .now) (draw vs ts (s .tree) x)) (sym g) ∙ ap (joined-at p (d₂ .now)) (s .draws)
 
   -- while
-  abbrev pub repeating : List Expect
-  repeating = one While ∷ condition ∷ block ∷ []
-
   pub body-repeating : (t : Text) (k : List Expect) (past : List Word) → first-is While t ≡ true → refusal (body ∷ k) past t ≡ refusal (repeating ++ (body ∷ k)) past t
   body-repeating t k past e = let h = first-mark While t e in ap (refusal (body ∷ k) past) (h .2) ∙ ap (refusal (repeating ++ (body ∷ k)) past) (sym (h .2))
 
@@ -316,13 +316,13 @@ module _ (vs : List Variable) (ts : List a-table) where
       refuses-loop r i k past y = looping k past y ∙ i k _ (looped past y)
 
       pub stated-loop : (t₃ : Text) (d d₁ d₂ d₃ d₄ : Drawing) → Blocked vs ts l t₂ t₃ d₂ d₃ → d₁ ≡ fresh Skip p d → d₂ ≡ fresh (holds (var-number vs ts) c) p d₁ →
-          d₄ ≡ fresh (negation (var-number vs ts) c) p (stand (d₁ .now) (back Skip p (d₁ .now) d₃)) → Stated vs ts l t t₃ d d₄
+          d₄ ≡ fresh (negation (var-number vs ts) c) p (stand (d₁ .now) (back Skip p (d₁ .now) d₃)) → Statement vs ts l t t₃ d d₄
       stated-loop t₃ d d₁ d₂ d₃ d₄ b f g h =
           let cw = o .words in
           let bw = b .inside in
           let tail = mark CloseBrace (b .closed) ∷ [] in
           let block-words = mark OpenBrace (b .opened) ∷ (bw ++ tail) in
-          record {
+          one-or-more (mark While p) (cw ++ block-words) (record {
             words = mark While p ∷ (cw ++ block-words);
             joined = e ∙ ap (reads (mark While p)) (o .joined ∙ ap (before cw) (b .joined ∙ ap (reads (mark OpenBrace (b .opened))) (sym (before-++ bw tail t₃))) ∙ sym (before-++ cw block-words t₃));
             more = λ rest. repeat p c (b .tree) rest;
@@ -333,7 +333,7 @@ module _ (vs : List Variable) (ts : List a-table) where
             stays = λ past y. subst (Starts vs ts l) (sym (pasts cw bw past)) (b .stays _ (looped past y));
             goes = λ k past y.
                 body-repeating t k past (ap (first-is While) e) ∙ looping (body ∷ k) past y ∙ b .goes (body ∷ k) _ (looped past y) ∙ ap (λ (z : List Word). refusal (body ∷ k) z t₃) (sym (pasts cw bw past));
-          }
+          }) refl
         where
           joins : (cw bw r₀ : List Word) → (cw ++ (mark OpenBrace (b .opened) ∷ (bw ++ (mark CloseBrace (b .closed) ∷ [])))) ++ r₀ ≡ cw ++ (mark OpenBrace (b .opened) ∷ (bw ++ (mark CloseBrace (b .closed) ∷ r₀)))
           joins cw bw r₀ = simp append-assoc

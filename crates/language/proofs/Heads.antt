@@ -5,7 +5,7 @@ use mathlib.Core.List.{List, [], _∷_, _++_, append-assoc}
 use Prim.Native.Nat.{ℕ, suc, _+_, _≤_, _<_}
 use native.Mathlib.Omega.{arith}
 use lib.Dec.{leb, ltb, eqb}
-use lib.ListN.{length}
+use lib.ListN.{length, length-append}
 use Rattle.std.specs.declared.option.Option.the-variants.{Some}
 use Rattle.refusal.specs.declared.Place.{Place}
 use Rattle.refusal.specs.declared.Refusal.{Refusal}
@@ -19,14 +19,15 @@ use Rattle.language.specs.Grammar.{Declaration, Span, Heads}
 use Rattle.language.specs.Grammar.Declaration.{variable, table}
 use Rattle.language.specs.Grammar.Heads.{no-decl, var-decl, table-decl}
 use Rattle.language.specs.Graphs.{Variable, Table as a-table, variables, tables, var-names, table-names}
+use Rattle.language.specs.Rules.{words}
 use Rattle.language.specs.Names.{rule, names-behind, next-is-bracket}
 use Rattle.language.specs.Expected.{Expect, one, step, refusal, refuse}
 use Rattle.language.specs.Expected.Expect.{just, heads, span}
 use Rattle.language.specs.Expected.Terminal.{any-name, any-number}
-use Rattle.language.specs.Readings.{before, passed, first-is, Refuses, Anywhere, Over, Quiet, is-span, Boundary, Known, Starts, Declares, Declared}
+use Rattle.language.specs.Readings.{before, passed, first-is, Refuses, Anywhere, Over, Quiet, is-span, Boundary, Known, Starts, Declares, Declared, varying, tabling}
 use Rattle.language.specs.Readings.Boundary.{at-start, behind-semicolon}
 use Rattle.language.proofs.Passing.{pass-word, broken-word, decided-word}
-use Rattle.language.proofs.Steps.{before-++, passed-++, first-mark}
+use Rattle.language.proofs.Steps.{before-++, passed-++, words-before, first-mark}
 
 -- none, and one more
 pub declared-none : (t : Text) → Declared [] [] t t
@@ -71,6 +72,14 @@ declared-more {t₂ = t₂} x y =
       goes = λ k. x .goes k ∙ y .goes k (passed xs []) (x .starts) ∙ ap (λ (p : List Word). refusal (heads ∷ k) p t₂) (sym (passed-++ xs ys []));
     }
 
+-- what is left is shorter behind a declaration
+pub shorter : {vs vs₂ : List Variable} {ts ts₂ : List a-table} {t t₂ : Text} → Declares vs vs₂ ts ts₂ t t₂ → length (words t₂) < length (words t)
+shorter {t₂ = t₂} y =
+    let e = ap length (ap words (y .joined) ∙ words-before (y .words) t₂) in
+    let a = length-append (y .words) (words t₂) in
+    let h = y .some in
+    omega arith
+
 var-names-snoc : (vs : List Variable) (v : Variable) → var-names (vs ++ (v ∷ [])) ≡ var-names vs ++ (v .name ∷ [])
 var-names-snoc [] v = refl
 var-names-snoc (u ∷ vs) v = ap (λ (z : List (List ℕ)). u .name ∷ z) (var-names-snoc vs v)
@@ -111,9 +120,6 @@ quiet-equals past q = record { minus = refl; dots = refl; bracket = refl }
 
 module _ (vs : List Variable) (ts : List a-table) where
   -- var name = range ;
-  abbrev pub varying : List Expect
-  varying = one Var ∷ just any-name ∷ one Equals ∷ span ∷ one Semicolon ∷ []
-
   pub heads-varying : (t : Text) (k : List Expect) (past : List Word) → first-is Var t ≡ true → refusal (heads ∷ k) past t ≡ refusal (varying ++ (heads ∷ k)) past t
   heads-varying t k past e = let h = first-mark Var t e in ap (refusal (heads ∷ k) past) (h .2) ∙ ap (refusal (varying ++ (heads ∷ k)) past) (sym (h .2))
 
@@ -161,6 +167,7 @@ module _ (vs : List Variable) (ts : List a-table) where
                   joined = e ∙ ap (reads (mark Var v)) (f ∙ ap (reads (name n p)) (g ∙ ap (reads (mark Equals q)) (o .joined ∙ ap (before ws) j ∙ sym (before-++ ws (mark Semicolon s ∷ []) t₅))));
                   declaration = variable n g₂;
                   derived = λ r₀ r rest d. rw append-assoc (var-decl (o .derived (mark Semicolon s ∷ r₀)) d);
+                  some = omega arith;
                   vars = a;
                   tabs = b ∙ sym (nil-tables ts);
                   stays = λ past y. rw passed-++ (over past y);
@@ -186,9 +193,6 @@ module _ (vs : List Variable) (ts : List a-table) where
                     }
 
   -- table name [ size ] = range ;
-  abbrev pub tabling : List Expect
-  tabling = one Table ∷ just any-name ∷ one OpenBracket ∷ just any-number ∷ one CloseBracket ∷ one Equals ∷ span ∷ one Semicolon ∷ []
-
   pub heads-tabling : (t : Text) (k : List Expect) (past : List Word) → first-is Table t ≡ true → refusal (heads ∷ k) past t ≡ refusal (tabling ++ (heads ∷ k)) past t
   heads-tabling t k past e = let h = first-mark Table t e in ap (refusal (heads ∷ k) past) (h .2) ∙ ap (refusal (tabling ++ (heads ∷ k)) past) (sym (h .2))
 
@@ -268,6 +272,7 @@ module _ (vs : List Variable) (ts : List a-table) where
                               (l ∙ ap (reads (mark Equals z)) (o .joined ∙ ap (before ws) j ∙ sym (before-++ ws (mark Semicolon s ∷ []) t₈)))))));
                           declaration = table n c g₂;
                           derived = λ r₀ r rest h₂. rw append-assoc (table-decl (o .derived (mark Semicolon s ∷ r₀)) h₂);
+                          some = omega arith;
                           vars = b ∙ sym (nil-variables vs);
                           tabs = a;
                           stays = λ past y. rw passed-++ (over past y);

@@ -15,6 +15,7 @@ use Rattle.words.specs.Marks.{code, is}
 use Rattle.words.proofs.Told.{mark-same}
 use Rattle.words.specs.declared.Mark.{Mark}
 use Rattle.words.specs.declared.Mark.the-variants.{Becomes, Dots, LessEqual, GreaterEqual, Less, Greater, Equals, Plus, Minus, OpenBrace, CloseBrace, OpenBracket, CloseBracket, Semicolon, Var, Table, If, Else, While, Hear, Sense}
+use Rattle.language.specs.Rules.{words}
 use Rattle.language.specs.Names.{rule, follows, names-behind, level, next-is-bracket}
 use Rattle.language.specs.Expected.{Expect, Terminal, Refusal, fits, one, alternatives, optional, after, pick, step, complete, refusal, refuse}
 use Rattle.language.specs.Expected.Expect.{just, heads, body, span, const, condition, operator, operand, block, else-part, right, behind-minus, behind-name}
@@ -29,6 +30,10 @@ before-++ (x ∷ xs) ys t = ap (reads x) (before-++ xs ys t)
 pub passed-++ : (xs ys past : List Word) → passed (xs ++ ys) past ≡ passed ys (passed xs past)
 passed-++ [] ys past = refl
 passed-++ (x ∷ xs) ys past = passed-++ xs ys (x ∷ past)
+
+pub words-before : (ws : List Word) (t : Text) → words (before ws t) ≡ ws ++ words t
+words-before [] t = refl
+words-before (w ∷ ws) t = ap (λ (z : List Word). w ∷ z) (words-before ws t)
 
 -- the first word of a text
 pub first-mark : (m : Mark) (t : Text) → first-is m t ≡ true → (p : Place) × (t₂ : Text) × (t ≡ reads (mark m p) t₂)

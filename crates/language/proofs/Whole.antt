@@ -26,23 +26,18 @@ use Rattle.language.specs.Rules.{words}
 use Rattle.language.specs.Expected as expected
 use Rattle.language.specs.Expected.{Expect, refusal, at-first}
 use Rattle.language.specs.Expected.Expect.{heads, body}
-use Rattle.language.specs.Readings.{before, passed, said, begins-statement, begins-declaration, Refuses, Turns-back, Unended, Starts, Stated, Declared}
+use Rattle.language.specs.Readings.{before, passed, said, begins-statement, begins-declaration, Refuses, Turns-back, Unended, At-start, Starts, Stated, Declared}
 use Rattle.language.specs.Readings.Turns-back.{by-rule, by-want}
-use Rattle.language.proofs.Steps.{no-statement, no-declaration}
+use Rattle.language.proofs.Steps.{words-before, no-statement, no-declaration}
 use Rattle.language.proofs.Verdicts.{passes-with, refused-at}
 
 nil : {A : Type 0} (xs : List A) → xs ++ [] ≡ xs
 nil [] = refl
 nil {A} (x ∷ xs) = ap (λ (z : List A). x ∷ z) (nil xs)
 
-words-before : (ws : List Word) (t : Text) → words (before ws t) ≡ ws ++ words t
-words-before [] t = refl
-words-before (w ∷ ws) t = ap (λ (z : List Word). w ∷ z) (words-before ws t)
-
 -- a refusal of the declarations, of the statements, or of what is left behind them
-pub refuses-heads : (t : Text) (r : Refusal) → Refuses (heads ∷ []) (Starts [] [] 8) t r → refusal at-first [] t ≡ said r
-refuses-heads t r h =
-    h (body ∷ []) [] (record { boundary = Rattle.language.specs.Readings.Boundary.at-start; known = record { vars = refl; tabs = refl }; deep = refl })
+pub refuses-heads : (t : Text) (r : Refusal) → Refuses (heads ∷ []) At-start t r → refusal at-first [] t ≡ said r
+refuses-heads t r h = h (body ∷ []) [] refl
 
 module _ {vs : List Variable} {ts : List a-table} {t t₁ : Text} (h : Declared vs ts t t₁) (n : begins-declaration t₁ ≡ false) where
   behind-heads : refusal at-first [] t ≡ refusal (body ∷ []) (passed (h .words) []) t₁

@@ -3,7 +3,8 @@
 use mathlib.Core.Path.{_≡_}
 use mathlib.Core.Bool.{Bool, true, false, _||_}
 use mathlib.Core.List.{List, [], _∷_, _++_}
-use Prim.Native.Nat.{ℕ, _+_, suc}
+use Prim.Native.Nat.{ℕ, _+_, suc, _≤_}
+use lib.ListN.{length}
 use lib.IntN.{ℤ, pos, negℤ}
 use Rattle.std.specs.declared.option.Option.{Option}
 use Rattle.std.specs.declared.option.Option.the-variants.{Some, None}
@@ -16,16 +17,18 @@ use Rattle.words.specs.Words.Word.{name, number, mark}
 use Rattle.words.specs.Words.Text.{ends, fails, reads}
 use Rattle.words.specs.Marks.{is}
 use Rattle.words.specs.declared.Mark.{Mark}
-use Rattle.words.specs.declared.Mark.the-variants.{Becomes, Dots, Less, LessEqual, Greater, GreaterEqual, Minus, OpenBrace, CloseBrace, OpenBracket, Semicolon, Var, Table, If, While}
+use Rattle.words.specs.declared.Mark.the-variants.{Becomes, Dots, Less, LessEqual, Greater, GreaterEqual, Equals, Minus, OpenBrace, CloseBrace, OpenBracket, CloseBracket, Semicolon, Var, Table, If, While}
 use Rattle.language.specs.Grammar.{Declaration, Side, Order, Operand, Condition, Statements, Span, Right, Compare, Compared, Heads, Cond, Body}
 use Rattle.language.specs.Grammar.Side.{reading}
 use Rattle.language.specs.declared.Range.{Range}
 use Rattle.language.specs.Grammar.Statements.{choose}
-use Rattle.language.specs.Graphs.{Variable, Table as a-table, Drawing, variables, tables, var-names, table-names, draw}
+use Rattle.language.specs.Graphs.{Variable, Table as a-table, Drawing, variables, tables, var-names, table-names, draw, fresh, back, stand}
 use Rattle.language.specs.Names.{follows, names-behind, level}
 use Rattle.language.specs.Expected as expected
-use Rattle.language.specs.Expected.{Expect, refusal}
-use Rattle.language.specs.Expected.Expect.{heads, body, block, else-part}
+use Rattle.language.specs.Expected.{Expect, one, refusal}
+use Rattle.language.specs.Expected.Expect.{just, heads, body, span, condition, block, else-part, right}
+use Rattle.language.specs.Expected.Terminal.{any-name, any-number}
+use Rattle.language.specs.declared.Action.the-variants.{Skip}
 
 -- words in turn, and then a text
 abbrev pub before : List Word → Text → Text
@@ -74,6 +77,9 @@ pub record Unended (t : Text) (r : Refusal) : Type 0 where
 
 abbrev pub Anywhere : List Word → Type 0
 Anywhere past = Unit {0}
+
+abbrev pub At-start : List Word → Type 0
+At-start past = past ≡ []
 
 -- the same names are declared and as many blocks are open
 pub record Alike (past past₂ : List Word) : Type 0 where
@@ -203,6 +209,11 @@ module _ (vs : List Variable) (ts : List a-table) where
     pub stays : (past : List Word) → Starts levels past → Starts levels (passed words past)
     pub goes : (k : List Expect) (past : List Word) → Starts levels past → refusal (body ∷ k) past t ≡ refusal (body ∷ k) (passed words past) t₂
 
+  -- one statement, of at least one word
+  pub record Statement (levels : ℕ) (t t₂ : Text) (d d₂ : Drawing) : Type 0 where
+    pub stated : Stated levels t t₂ d d₂
+    pub some : 1 ≤ length (stated .words)
+
   -- A block: a brace, statements of the tree `tree`, and a brace, behind a condition or `else`.
   pub record Blocked (levels : ℕ) (t t₂ : Text) (d d₂ : Drawing) : Type 0 where
     pub opened : Place
@@ -233,6 +244,7 @@ pub record Declares (vs vs₂ : List Variable) (ts ts₂ : List a-table) (t t₂
   pub joined : t ≡ before words t₂
   pub declaration : Declaration
   pub derived : (r₀ r : List Word) (rest : List Declaration) → Heads r₀ r rest → Heads (words ++ r₀) r (declaration ∷ rest)
+  pub some : 1 ≤ length words
   pub vars : vs₂ ≡ vs ++ variables (declaration ∷ [])
   pub tabs : ts₂ ≡ ts ++ tables (declaration ∷ [])
   pub stays : (past : List Word) → Starts vs ts 8 past → Starts vs₂ ts₂ 8 (passed words past)
@@ -256,3 +268,25 @@ begins-statement t = first-names t || first-is If t || first-is While t
 -- a declaration begins with `var` or `table`
 abbrev pub begins-declaration : Text → Bool
 begins-declaration t = first-is Var t || first-is Table t
+
+-- What is expected of each statement and of each declaration.
+abbrev pub assigning : List Expect
+assigning = just any-name ∷ one Becomes ∷ right ∷ one Semicolon ∷ []
+
+abbrev pub choosing : List Expect
+choosing = one If ∷ condition ∷ block ∷ else-part ∷ []
+
+abbrev pub repeating : List Expect
+repeating = one While ∷ condition ∷ block ∷ []
+
+abbrev pub varying : List Expect
+varying = one Var ∷ just any-name ∷ one Equals ∷ span ∷ one Semicolon ∷ []
+
+abbrev pub tabling : List Expect
+tabling = one Table ∷ just any-name ∷ one OpenBracket ∷ just any-number ∷ one CloseBracket ∷ one Equals ∷ span ∷ one Semicolon ∷ []
+
+-- the drawing at the join of two blocks: the end of the first, and the drawing at the end of the second
+abbrev pub joined-at : Place → ℕ → Drawing → Drawing
+joined-at p first d =
+    let join = fresh Skip p (stand first d) in
+    stand (join .now) (back Skip p (join .now) (stand (d .now) join))

@@ -2,3 +2,4 @@ pub mod Exits
 pub mod Sentences
 pub mod Naming
 pub mod Siding
+pub mod Guarding

@@ -92,3 +92,24 @@ Looked-up n ns o = Cases o (among n ns ≡ false) (λ i. (among n ns ≡ true) �
 pub is-there : (n : List ℕ) (ns ms : List (List ℕ)) → ns ≡ ms → (o : Option ℕ) → Looked-up n ns o → isSome o ≡ among n ms
 is-there n ns ms e None h = sym (ap (among n) (sym e) ∙ h)
 is-there n ns ms e (Some i) h = sym (ap (among n) (sym e) ∙ h .0)
+
+-- a table by its number
+getD-map : {A B : Type 0} (f : A → B) (xs : List A) (i : ℕ) (x : A) (d : B) → i < length xs → getD (map f xs) i d ≡ f (getD xs i x)
+getD-map f [] i x d h = absurd (omega arith)
+getD-map f (y ∷ xs) zero x d h = refl
+getD-map f (y ∷ xs) (suc i) x d h = getD-map f xs i x d (omega arith)
+
+getD-past : {A B : Type 0} (f : A → B) (xs : List A) (i : ℕ) (d : B) → length xs ≤ i → getD (map f xs) i d ≡ d
+getD-past f [] i d h = getD-nil i d
+  where
+    getD-nil : {B : Type 0} (i : ℕ) (d : B) → getD [] i d ≡ d
+    getD-nil zero d = refl
+    getD-nil (suc i) d = refl
+getD-past f (y ∷ xs) zero d h = absurd (omega arith)
+getD-past f (y ∷ xs) (suc i) d h = getD-past f xs i d (omega arith)
+
+pub table-at : (xs ts : List Table) → xs ≡ ts → (i : ℕ) (t : Table) → i < length xs → t ≡ getD xs i t → getD (map table-of ts) i graphs.no-table ≡ table-of t
+table-at xs ts e i t h f = ap (λ (z : List Table). getD (map table-of z) i graphs.no-table) (sym e) ∙ getD-map table-of xs i t graphs.no-table h ∙ ap table-of (sym f)
+
+pub table-none : (xs ts : List Table) → xs ≡ ts → (i : ℕ) → length xs ≤ i → getD (map table-of ts) i graphs.no-table ≡ graphs.no-table
+table-none xs ts e i h = ap (λ (z : List Table). getD (map table-of z) i graphs.no-table) (sym e) ∙ getD-past table-of xs i graphs.no-table h

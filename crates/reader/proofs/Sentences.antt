@@ -1,6 +1,6 @@
 -- One word of a sentence, taken or refused.
 use mathlib.Core.Path.{_≡_, refl, sym, ap, subst, _∙_}
-use mathlib.Core.Bool.{Bool, true, false}
+use mathlib.Core.Bool.{Bool, true, false, _||_}
 use mathlib.Core.List.{List, [], _∷_, _++_}
 use Prim.Native.Nat.{ℕ, _<_, _^_}
 use lib.IntN.{pos, negℤ}
@@ -22,13 +22,14 @@ use Rattle.words.specs.Words.Next.{word, fault, end}
 use Rattle.words.specs.Marks.{code, is}
 use Rattle.words.specs.Reader.{as-next, leads}
 use Rattle.words.specs.declared.Mark.{Mark}
+use Rattle.words.specs.declared.Mark.the-variants.{If, While}
 use Rattle.words.specs.declared.Found.{Found}
 use Rattle.words.specs.declared.Found.the-variants.{Name, Number, Sign, Fault, End}
 use Rattle.words.proofs.Told.{mark-same}
 use Rattle.language.specs.Expected.{Expect, one, pick, step, refusal}
 use Rattle.language.specs.Expected.Expect.{just}
 use Rattle.language.specs.Expected.Terminal.{any-name, any-number}
-use Rattle.language.specs.Readings.{first-is, said, Anywhere, Turns-back, Unended}
+use Rattle.language.specs.Readings.{first-is, first-names, begins-statement, said, Anywhere, Turns-back, Unended}
 use Rattle.language.specs.Readings.Turns-back.{by-rule, by-want}
 use Rattle.language.proofs.Passing.{unfit-word}
 use Rattle.reader.specs.Models.{unfit, Small}
@@ -105,3 +106,13 @@ small-plain n h = (omega (arith, ints), omega (arith, ints))
 
 pub small-negative : (n : ℕ) → n < 2 ^ 32 → Small (negℤ (pos n))
 small-negative n h = (omega (arith, ints), omega (arith, ints))
+
+-- what begins a statement, and is no `if` and no `while`, is a name
+pub a-name : (t : Text) → begins-statement t ≡ true → first-is If t ≡ false → first-is While t ≡ false → first-names t ≡ true
+a-name t e f g = go (first-names t) (first-is If t) (first-is While t) e f g
+  where
+    go : (a b c : Bool) → (a || b || c) ≡ true → b ≡ false → c ≡ false → a ≡ true
+    go true b c e f g = refl
+    go false true c e f g = absurd (false≢true (sym f))
+    go false false true e f g = absurd (false≢true (sym g))
+    go false false false e f g = absurd (false≢true e)

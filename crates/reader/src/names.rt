@@ -9,10 +9,12 @@ ghost use Rattle.std.specs.Results.{Cases};
 ghost use Rattle.refusal.specs.Reasons.{located};
 ghost use Rattle.refusal.specs.declared.Reason.the-variants.{Undeclared};
 ghost use Rattle.words.specs.Words.{same, among};
-ghost use Rattle.language.specs.Graphs.{var-names, table-names, number-of};
+ghost use lib.ListN.{getD};
+ghost use Rattle.language.specs.Graphs.{var-names, table-names, number-of, no-table};
 ghost use Rattle.reader.specs.Models.{vars-of, tabs-of};
 use crate::Table;
 use crate::Variable;
+use language::Range;
 use refusal::Place;
 use refusal::Reason;
 use refusal::Refusal;
@@ -102,6 +104,16 @@ impl Names {
         match position(self.tables.as_slice(), name) {
             Some(i) => Ok(i),
             None => Err(Refusal::at(Reason::Undeclared, place)),
+        }
+    }
+
+    // The size and the range of a table; 0 and 0..0 where there is none.
+    pub fn shape(&self, table: usize) -> (u32, Range)
+        ensures { λ r. ⌜ (r .0 ≡ getD (tabs-of (now (self .entry))) table no-table .size) × (r .1 ≡ getD (tabs-of (now (self .entry))) table no-table .range) ⌝ }
+    {
+        match self.tables.get(table) {
+            Some(t) => (t.size, t.range),
+            None => (0, Range { low: 0, high: 0 }),
         }
     }
 }

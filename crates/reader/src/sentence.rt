@@ -13,7 +13,7 @@ ghost use Rattle.words.specs.Reader.{as-next, leads};
 ghost use Rattle.language.specs.Expected.{one};
 ghost use Rattle.language.specs.Expected.Expect.{just, const};
 ghost use Rattle.language.specs.Expected.Terminal.{any-name, any-number};
-ghost use Rattle.language.specs.Readings.{first-is, first-names, Anywhere, Turns-back, Unended, Constant};
+ghost use Rattle.language.specs.Readings.{first-is, first-names, begins-statement, begins-declaration, Anywhere, Turns-back, Unended, Constant};
 ghost use Rattle.reader.specs.Models.{left, unfit, Small};
 use refusal::Place;
 use refusal::Reason;
@@ -91,6 +91,20 @@ impl<'a> Sentence<'a> {
             Found::Name(_, _) => true,
             Found::Number(_, _) | Found::Sign(_, _) | Found::Fault(_, _) | Found::End(_) => false,
         }
+    }
+
+    // Whether the present word begins a statement.
+    pub fn at_statement(&self) -> bool
+        ensures { λ r. ⌜ r ≡ begins-statement (left (now (self .entry))) ⌝ }
+    {
+        self.at_name() || self.at(Mark::If) || self.at(Mark::While)
+    }
+
+    // Whether the present word begins a declaration.
+    pub fn at_declaration(&self) -> bool
+        ensures { λ r. ⌜ r ≡ begins-declaration (left (now (self .entry))) ⌝ }
+    {
+        self.at(Mark::Var) || self.at(Mark::Table)
     }
 
     // Takes this mark.
