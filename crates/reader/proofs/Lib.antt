@@ -3,3 +3,4 @@ pub mod Sentences
 pub mod Naming
 pub mod Siding
 pub mod Guarding
+pub mod Grouped

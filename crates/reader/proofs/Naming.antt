@@ -5,7 +5,8 @@ use mathlib.Core.List.{List, [], _∷_, _++_, map}
 use Prim.Native.Nat.{ℕ, suc, zero, _+_, _<_, _≤_}
 use native.Mathlib.Omega.{arith}
 use lib.ListN.{length, take, drop, getD}
-use Rattle.std.proofs.shelf.Tests.{false≢true, or-parts, cond-true, cond-false}
+use lib.Dec.{leb}
+use Rattle.std.proofs.shelf.Tests.{false≢true, or-parts, cond-true, cond-false, le-leb, lt-leb}
 use Rattle.std.proofs.shelf.Lists.{take-more, drop-more, take-all, take-append-drop}
 use Rattle.words.specs.Words.{same, among}
 use Rattle.language.specs.Graphs as graphs
@@ -47,9 +48,9 @@ first-found n (x ∷ ms) m rest e f =
     let h = first-found n ms m rest (p .1) f in
     (ap (λ (b : Bool). b || among n (ms ++ (m ∷ rest))) (p .0) ∙ h .0, cond-false (same n x) 0 (suc (number-of n (ms ++ (m ∷ rest)))) (p .0) ∙ ap suc (h .1))
 
-length-map : {A : Type 0} (f : A → List ℕ) (xs : List A) → length (map f xs) ≡ length xs
-length-map f [] = refl
-length-map f (x ∷ xs) = ap suc (length-map f xs)
+pub length-of : {A B : Type 0} (f : A → B) (xs : List A) → length (map f xs) ≡ length xs
+length-of f [] = refl
+length-of f (x ∷ xs) = ap suc (length-of f xs)
 
 module _ {A : Type 0} (f : A → List ℕ) (n : List ℕ) (xs : List A) where
   -- none of the first i is it
@@ -71,7 +72,7 @@ module _ {A : Type 0} (f : A → List ℕ) (n : List ℕ) (xs : List A) where
   found-at i x h e p q =
       let s : map f xs ≡ map f (take i xs) ++ (f (getD xs i x) ∷ map f (drop (i + 1) xs)) = ap (map f) (split i x h) ∙ map-++ f (take i xs) (getD xs i x ∷ drop (i + 1) xs) in
       let r = first-found n (map f (take i xs)) (f (getD xs i x)) (map f (drop (i + 1) xs)) p (ap (λ (y : A). same n (f y)) (sym e) ∙ q) in
-      (ap (among n) s ∙ r .0, sym (ap (number-of n) s ∙ r .1 ∙ length-map f (take i xs) ∙ long i h))
+      (ap (among n) s ∙ r .0, sym (ap (number-of n) s ∙ r .1 ∙ length-of f (take i xs) ∙ long i h))
     where
       split : (i : ℕ) (x : A) → i < length xs → xs ≡ take i xs ++ (getD xs i x ∷ drop (i + 1) xs)
       split i x h = sym (take-append-drop i xs) ∙ ap (λ (z : List A). take i xs ++ z) (drop-more xs i x h)
@@ -113,3 +114,23 @@ table-at xs ts e i t h f = ap (λ (z : List Table). getD (map table-of z) i grap
 
 pub table-none : (xs ts : List Table) → xs ≡ ts → (i : ℕ) → length xs ≤ i → getD (map table-of ts) i graphs.no-table ≡ graphs.no-table
 table-none xs ts e i h = ap (λ (z : List Table). getD (map table-of z) i graphs.no-table) (sym e) ∙ getD-past table-of xs i graphs.no-table h
+
+map-snoc : {A B : Type 0} (f : A → B) (xs : List A) (x : A) → map f (xs ++ (x ∷ [])) ≡ map f xs ++ (f x ∷ [])
+map-snoc f [] x = refl
+map-snoc {A} {B} f (y ∷ xs) x = ap (λ (z : List B). f y ∷ z) (map-snoc f xs x)
+
+-- one variable more, one table more
+pub more-variables : (xs ys : List Variable) (x : Variable) (n : List ℕ) → ys ≡ xs ++ (x ∷ []) → vec-items (x .name) ≡ n →
+    map variable-of ys ≡ map variable-of xs ++ (record { name = n; range = x .range } ∷ [])
+more-variables xs ys x n e f = ap (map variable-of) e ∙ map-snoc variable-of xs x ∙ ap (λ (m : List ℕ). map variable-of xs ++ (record { name = m; range = x .range } ∷ [])) f
+
+pub more-tables : (xs ys : List Table) (x : Table) (n : List ℕ) → ys ≡ xs ++ (x ∷ []) → vec-items (x .name) ≡ n →
+    map table-of ys ≡ map table-of xs ++ (record { name = n; size = x .size; range = x .range } ∷ [])
+more-tables xs ys x n e f = ap (map table-of) e ∙ map-snoc table-of xs x ∙ ap (λ (m : List ℕ). map table-of xs ++ (record { name = m; size = x .size; range = x .range } ∷ [])) f
+
+-- eight or more, or fewer
+pub full : {A B : Type 0} (f : A → B) (xs : List A) (n : ℕ) → n ≡ length xs → 8 ≤ n → leb 8 (length (map f xs)) ≡ true
+full f xs n e h = let k = length-of f xs in le-leb 8 (length (map f xs)) (omega arith)
+
+pub roomy : {A B : Type 0} (f : A → B) (xs : List A) (n : ℕ) → n ≡ length xs → n < 8 → leb 8 (length (map f xs)) ≡ false
+roomy f xs n e h = let k = length-of f xs in lt-leb 8 (length (map f xs)) (omega arith)

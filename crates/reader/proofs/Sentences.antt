@@ -22,14 +22,14 @@ use Rattle.words.specs.Words.Next.{word, fault, end}
 use Rattle.words.specs.Marks.{code, is}
 use Rattle.words.specs.Reader.{as-next, leads}
 use Rattle.words.specs.declared.Mark.{Mark}
-use Rattle.words.specs.declared.Mark.the-variants.{If, While}
+use Rattle.words.specs.declared.Mark.the-variants.{If, While, Var, Table}
 use Rattle.words.specs.declared.Found.{Found}
 use Rattle.words.specs.declared.Found.the-variants.{Name, Number, Sign, Fault, End}
 use Rattle.words.proofs.Told.{mark-same}
 use Rattle.language.specs.Expected.{Expect, one, pick, step, refusal}
 use Rattle.language.specs.Expected.Expect.{just}
 use Rattle.language.specs.Expected.Terminal.{any-name, any-number}
-use Rattle.language.specs.Readings.{first-is, first-names, begins-statement, said, Anywhere, Turns-back, Unended}
+use Rattle.language.specs.Readings.{first-is, first-names, begins-statement, begins-declaration, said, Anywhere, Turns-back, Unended}
 use Rattle.language.specs.Readings.Turns-back.{by-rule, by-want}
 use Rattle.language.proofs.Passing.{unfit-word}
 use Rattle.reader.specs.Models.{unfit, Small}
@@ -116,3 +116,11 @@ a-name t e f g = go (first-names t) (first-is If t) (first-is While t) e f g
     go false true c e f g = absurd (false≢true (sym f))
     go false false true e f g = absurd (false≢true (sym g))
     go false false false e f g = absurd (false≢true e)
+
+-- what begins a declaration, and is no `var`, is `table`
+pub a-table : (t : Text) → begins-declaration t ≡ true → first-is Var t ≡ false → first-is Table t ≡ true
+a-table t e f = go (first-is Var t) (first-is Table t) e f
+  where
+    go : (a b : Bool) → (a || b) ≡ true → a ≡ false → b ≡ true
+    go true b e f = absurd (false≢true (sym f))
+    go false b e f = e

@@ -1,1 +1,3 @@
 pub mod Models
+pub mod Grouping
+pub mod Meaning

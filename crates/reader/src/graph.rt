@@ -1,16 +1,18 @@
 // The graph of a script: variables and tables in the order declared, points, edges and table reads in the order made.
-mod questions;
-
+ghost use mathlib.Core.Path.{_≡_};
+ghost use mathlib.Core.Bool.{true};
+ghost use Prim.Native.Nat.{_≤_};
+ghost use Rattle.std.specs.Of.Vec.{vec-items, vec-len};
+ghost use Rattle.reader.specs.Grouping.{graph-of, Of-script, all, edge-fits, lookup-fits, grouped, offsets};
 use crate::Table;
 use crate::Variable;
-use crate::drawing::Drawing;
-use crate::names::Names;
 use language::Edge;
 use language::Lookup;
-use refusal::Refusal;
-use refusal::RefusalFromAlloc;
-use refusal::RefusalFromRefused;
-use std::alloc::Global;
+
+mod making;
+mod questions;
+
+pub(crate) use making::finish;
 
 #[derive(Drop)]
 pub struct Graph {
@@ -23,51 +25,12 @@ pub struct Graph {
     inward: Vec<Edge>,
     // where the edges to each point begin among these, and at last where they end
     starts: Vec<usize>,
-}
-
-pub fn finish(heap: Global, names: Names, drawing: Drawing) -> Result<Graph, Refusal> {
-    let Names { variables, tables } = names;
-    let Drawing {
-        points,
-        here: _,
-        edges,
-        lookups,
-    } = drawing;
-    let mut inward = Vec::new(heap);
-    let mut starts = Vec::new(heap);
-    group(edges.as_slice(), points, &mut inward, &mut starts)?;
-    Ok(Graph {
-        variables,
-        tables,
-        points,
-        edges,
-        lookups,
-        inward,
-        starts,
-    })
-}
-
-// The edges point by point.
-fn group(
-    edges: &[Edge],
-    points: usize,
-    inward: &mut Vec<Edge>,
-    starts: &mut Vec<usize>,
-) -> Result<(), Refusal> {
-    for p in 0..points {
-        starts.push(inward.len())?;
-        gather(edges, p, inward)?;
-    }
-    starts.push(inward.len())?;
-    Ok(())
-}
-
-// The edges to a point.
-fn gather(edges: &[Edge], p: usize, inward: &mut Vec<Edge>) -> Result<(), Refusal> {
-    for e in edges {
-        if e.target == p {
-            inward.push(*e)?;
-        }
-    }
-    Ok(())
+    ghost few_points: { points ≤ 96 },
+    ghost few_variables: { vec-len variables ≤ 8 },
+    ghost few_tables: { vec-len tables ≤ 8 },
+    ghost edges_fit: { all (edge-fits points (vec-len variables)) (vec-items edges) ≡ true },
+    ghost lookups_fit: { all (lookup-fits points (vec-len variables) (vec-len tables)) (vec-items lookups) ≡ true },
+    ghost by_target: { vec-items inward ≡ grouped points (vec-items edges) },
+    ghost starting: { vec-items starts ≡ offsets points (vec-items edges) },
+    ghost drawn: { ∥ Of-script (graph-of (vec-items variables) (vec-items tables) points (vec-items edges) (vec-items lookups)) ∥₁ },
 }

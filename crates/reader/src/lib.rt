@@ -1,4 +1,7 @@
 // Reads a script in one pass: words in, graph out.
+ghost use Rattle.language.specs.Laws.{Grammar-stands, Verdicts-stand, Graphs-stand};
+ghost use Rattle.language.specs.Examples.{Examples};
+ghost use Rattle.reader.specs.Meaning.{Reads-as};
 use language::Range;
 use refusal::Reason;
 use refusal::Refusal;
@@ -39,7 +42,11 @@ pub const MOST_BYTES: usize = 8192;
 pub const MOST_POINTS: usize = 96;
 
 // The graph of a script, or why and where the text is none.
-pub fn read(heap: Global, script: &[u8]) -> Result<Graph, Refusal> {
+pub fn read(heap: Global, script: &[u8]) -> Result<Graph, Refusal>
+    ensures verdict { λ r. ⌜ Reads-as (now (script .entry)) r ⌝ }
+    ensures laws { λ _. ⌜ Grammar-stands × Verdicts-stand × Graphs-stand ⌝ }
+    ensures examples { λ _. ⌜ Examples ⌝ }
+{
     if script.len() > MOST_BYTES {
         return Err(Refusal {
             reason: Reason::ScriptTooLong,

@@ -1,10 +1,21 @@
-use borrow.Author.Needs.{needs}
+use mathlib.Core.Path.{_≡_, refl, sym, _∙_}
+use mathlib.Core.List.{_∷_}
+use Rattle.std.proofs.shelf.Results.{cases-weaker}
+use Rattle.language.specs.Expected.Expect.{heads}
+use Rattle.language.proofs.Turning.{turns}
+use Rattle.language.proofs.Heads.{heads-varying, heads-tabling}
+use Rattle.reader.specs.Models.{left, vars-of, tabs-of}
+use Rattle.reader.proofs.Sentences.{a-table}
 use Rattle.reader.proofs.declarations.read_declaration.Needs as need
 
--- src/declarations.rt:76:1
 pub returns-then-at : need.returns-then-at
-returns-then-at c = ?
+returns-then-at c =
+    let n = c .args .names .now in
+    cases-weaker (c .read-variable .result) (c .read-variable .ensures) (λ _ h. h)
+    (λ e h _. turns (λ r k past y. heads-varying (vars-of n) (tabs-of n) (left (c .args .s .now)) k past (sym (c .if-at .ensures tt)) ∙ r (heads ∷ k) past y) h)
 
--- src/declarations.rt:76:1
 pub returns-else-at : need.returns-else-at
-returns-else-at c = ?
+returns-else-at c =
+    let n = c .args .names .now in
+    cases-weaker (c .read-table .result) (c .read-table .ensures) (λ _ h. h)
+    (λ e h b. turns (λ r k past y. heads-tabling (vars-of n) (tabs-of n) (left (c .args .s .now)) k past (a-table (left (c .args .s .now)) b (sym (c .if-at .ensures tt))) ∙ r (heads ∷ k) past y) h)

@@ -5,8 +5,8 @@ use Rattle.reader.specs.Models.{left, vars-of, tabs-of}
 use Rattle.reader.proofs.declarations.read_declarations.Given as given
 
 -- the words from the start of the text on are declarations of these names
-abbrev pub Inv-loop-s : given.InvT-loop-s
-Inv-loop-s l = Declared (vars-of (l .names)) (tabs-of (l .names)) (left (l .entry .s)) (left (l .s))
+abbrev pub Inv-loop-heap : given.InvT-loop-heap
+Inv-loop-heap l = Declared (vars-of (l .names)) (tabs-of (l .names)) (left (l .entry .s)) (left (l .s))
 
-abbrev pub μ-loop-s : given.MeasureT-loop-s
-μ-loop-s l = length (words (left (l .s)))
+abbrev pub μ-loop-heap : given.MeasureT-loop-heap
+μ-loop-heap l = length (words (left (l .s)))

@@ -1,34 +1,81 @@
-use borrow.Author.Needs.{needs}
+use mathlib.Core.Path.{_≡_, refl, sym, ap, _∙_}
+use mathlib.Core.Bool.{true, false}
+use mathlib.Core.List.{[], _∷_}
+use Rattle.std.specs.Of.Vec.{vec-items}
+use Rattle.refusal.specs.declared.Reason.the-variants.{DeclaredBefore, TooManyNames, TableSize}
+use Rattle.words.specs.declared.Mark.the-variants.{Equals, OpenBracket, CloseBracket, Semicolon}
+use Rattle.language.specs.Expected.{one}
+use Rattle.language.specs.Expected.Expect.{just, span}
+use Rattle.language.specs.Expected.Terminal.{any-name, any-number}
+use Rattle.language.specs.Readings.{Starts, varying, tabling}
+use Rattle.language.proofs.Turning.{turns, turns-at}
+use Rattle.language.proofs.Heads.{refuses-variable-name, variable-decides-name, refuses-equals, refuses-range, refuses-end, declares-variable}
+use Rattle.reader.specs.Models.{left, vars-of, tabs-of, variable-of}
+use Rattle.reader.proofs.Exits.{handed-on}
+use Rattle.reader.proofs.Naming.{full, roomy, more-variables}
 use Rattle.reader.proofs.declarations.read_variable.Needs as need
 
--- src/declarations.rt:26:13
 pub returns-in-Break-mark : need.returns-in-Break-mark
-returns-in-Break-mark c = ?
+returns-in-Break-mark c =
+    handed-on _ _ (c .from-residual .result) _ (c .from-residual .ensures .1)
+    (turns (λ h k past y. h (just any-name ∷ one Equals ∷ span ∷ one Semicolon ∷ k) past tt) (c .in-Break-mark .ensures tt))
 
--- src/declarations.rt:27:25
 pub returns-in-Break-name : need.returns-in-Break-name
-returns-in-Break-name c = ?
+returns-in-Break-name c =
+    let n = c .args .names .now in
+    handed-on _ _ (c .from-residual-in-Break-name .result) _ (c .from-residual-in-Break-name .ensures .1)
+    (turns (refuses-variable-name (vars-of n) (tabs-of n) (c .in-Continue-mark .ensures tt) _) (c .in-Break-name .ensures tt))
 
--- src/declarations.rt:29:9
 pub returns-then-has : need.returns-then-has
-returns-then-has c = ?
+returns-then-has c =
+    let n = c .args .names .now in
+    turns-at varying (Starts (vars-of n) (tabs-of n) 8) _ _ DeclaredBefore _ (c .at .ensures)
+    (variable-decides-name (vars-of n) (tabs-of n) (c .in-Continue-mark .ensures tt) (c .in-Continue-name .ensures tt) true _ (sym (c .if-has .ensures tt)) refl)
 
--- src/declarations.rt:32:9
 pub returns-then-len-ge8 : need.returns-then-len-ge8
-returns-then-len-ge8 c = ?
+returns-then-len-ge8 c =
+    let n = c .args .names .now in
+    turns-at varying (Starts (vars-of n) (tabs-of n) 8) _ _ TooManyNames _ (c .at-then-len-ge8 .ensures)
+    (variable-decides-name (vars-of n) (tabs-of n) (c .in-Continue-mark .ensures tt) (c .in-Continue-name .ensures tt) false true (sym (c .if-has .ensures tt))
+    (full variable-of (vec-items (n .variables)) (c .len .result) (c .len .ensures ∙ n .variables .ok .0) (c .if-len-ge8 .taken)))
 
--- src/declarations.rt:34:13
 pub returns-in-Break-mark-2 : need.returns-in-Break-mark-2
-returns-in-Break-mark-2 c = ?
+returns-in-Break-mark-2 c =
+    let n = c .args .names .now in
+    let m = c .in-Continue-mark .ensures tt in
+    let w = c .in-Continue-name .ensures tt in
+    let h = sym (c .if-has .ensures tt) in
+    let l = roomy variable-of (vec-items (n .variables)) (c .len .result) (c .len .ensures ∙ n .variables .ok .0) (c .if-len-ge8 .left) in
+    handed-on _ _ (c .from-residual-in-Break-mark-2 .result) _ (c .from-residual-in-Break-mark-2 .ensures .1)
+    (turns (refuses-equals (vars-of n) (tabs-of n) m w h l _) (c .in-Break-mark-2 .ensures tt))
 
--- src/declarations.rt:35:17
 pub returns-in-Break-range : need.returns-in-Break-range
-returns-in-Break-range c = ?
+returns-in-Break-range c =
+    let n = c .args .names .now in
+    let m = c .in-Continue-mark .ensures tt in
+    let w = c .in-Continue-name .ensures tt in
+    let h = sym (c .if-has .ensures tt) in
+    let l = roomy variable-of (vec-items (n .variables)) (c .len .result) (c .len .ensures ∙ n .variables .ok .0) (c .if-len-ge8 .left) in
+    handed-on _ _ (c .from-residual-in-Break-range .result) _ (c .from-residual-in-Break-range .ensures .1)
+    (turns (refuses-range (vars-of n) (tabs-of n) m w h l (c .in-Continue-mark-2 .ensures tt) _) (c .in-Break-range .ensures tt))
 
--- src/declarations.rt:36:13
 pub returns-in-Break-mark-3 : need.returns-in-Break-mark-3
-returns-in-Break-mark-3 c = ?
+returns-in-Break-mark-3 c =
+    let n = c .args .names .now in
+    let m = c .in-Continue-mark .ensures tt in
+    let w = c .in-Continue-name .ensures tt in
+    let h = sym (c .if-has .ensures tt) in
+    let l = roomy variable-of (vec-items (n .variables)) (c .len .result) (c .len .ensures ∙ n .variables .ok .0) (c .if-len-ge8 .left) in
+    handed-on _ _ (c .from-residual-in-Break-mark-3 .result) _ (c .from-residual-in-Break-mark-3 .ensures .1)
+    (turns (refuses-end (vars-of n) (tabs-of n) m w h l (c .in-Continue-mark-2 .ensures tt) (c .in-Continue-range .ensures tt) _) (c .in-Break-mark-3 .ensures tt))
 
--- src/declarations.rt:23:1
 pub returns : need.returns
-returns c = ?
+returns c =
+    let n = c .args .names .now in
+    let m = c .in-Continue-mark .ensures tt in
+    let w = c .in-Continue-name .ensures tt in
+    let h = sym (c .if-has .ensures tt) in
+    let l = roomy variable-of (vec-items (n .variables)) (c .len .result) (c .len .ensures ∙ n .variables .ok .0) (c .if-len-ge8 .left) in
+    declares-variable (vars-of n) (tabs-of n) m w h l (c .in-Continue-mark-2 .ensures tt) (c .in-Continue-range .ensures tt) _ _ (c .in-Continue-mark-3 .ensures tt) _
+    (more-variables (vec-items (n .variables)) (vec-items (c .push .last .self)) (record { name = c .in-Continue-name-2 .name; range = c .in-Continue-range .range }) (c .in-Continue-name .name .now)
+    (c .in-Continue-push .ensures tt .items) (c .in-Continue-name-2 .ensures tt .made .0)) _ refl
