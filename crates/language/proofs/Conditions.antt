@@ -56,8 +56,6 @@ refuses-operator t r a b c h k past u = last-operator k past t a b c ∙ h k pas
 module _ (vs : List Variable) (ts : List a-table) where
   -- the second name of a condition: a variable, and not the first name
 
-
-
   second-rule : {n₀ : List ℕ} {past : List Word} → Compares n₀ past → (n : List ℕ) (p : Place) (b : Bool) → rule past (name n p) b ≡ cond (not (is-variable n past)) 8 (cond (same n n₀) 11 0)
   second-rule c-less n p b = refl
   second-rule c-less-equal n p b = refl

@@ -1,8 +1,11 @@
 -- The verdict on a whole text, from what a reader that went over it says.
 use mathlib.Core.Path.{_≡_, refl, sym, ap, subst, _∙_}
-use mathlib.Core.Bool.{Bool, true, false}
+use mathlib.Core.Bool.{Bool, true, false, cond}
+use mathlib.Core.Logic.{_⊎_, inl, inr}
 use mathlib.Core.List.{List, [], _∷_, _++_}
-use Prim.Native.Nat.{ℕ, _≤_, _<_}
+use Prim.Native.Nat.{ℕ, suc, _≤_, _<_}
+use native.Mathlib.Omega.{arith}
+use lib.Dec.{eqb}
 use lib.ListN.{length}
 use Rattle.std.specs.declared.option.Option.{Option}
 use Rattle.std.specs.declared.option.Option.the-variants.{Some, None}
@@ -12,13 +15,18 @@ use Rattle.refusal.specs.declared.Place.{Place}
 use Rattle.refusal.specs.declared.Refusal.{Refusal}
 use Rattle.words.specs.Words.{Word, Text, text}
 use Rattle.words.specs.Words.Text.{ends, fails, reads}
+use Rattle.std.proofs.shelf.Tests.{eqb-true, cases-lt}
 use Rattle.words.proofs.Reading.{reads-text}
+use Rattle.words.proofs.Told.{no-some}
 use Rattle.language.specs.Grammar.{Declaration, Tree, Script, Heads, Body}
 use Rattle.language.specs.Grammar.Statements.{done}
 use Rattle.language.specs.Grammar.Heads.{no-decl}
 use Rattle.language.specs.Grammar.Body.{no-stmt}
 use Rattle.language.specs.Grammar.Script.{script}
-use Rattle.language.specs.Graphs.{Variable, Table as a-table, Drawing, Graph, variables, tables, draw, blank-sheet, finished, graph, maker}
+use Rattle.language.specs.Graphs.{Variable, Table as a-table, Drawing, Graph, variables, tables, draw, blank-sheet, finished, graph, maker, Made}
+use Rattle.language.specs.Graphs.Made.{none, next, again}
+use Rattle.language.specs.declared.Edge.{Edge}
+use Rattle.language.proofs.Drawings.{graph-made, maker-some}
 use Rattle.language.specs.Names.{Passes, Verdict, Outcome}
 use Rattle.language.specs.Names.Outcome.{refused, drawn}
 use Rattle.language.specs.Names.Verdict.{too-many, fine}
@@ -34,6 +42,33 @@ use Rattle.language.proofs.Verdicts.{passes-with, refused-at}
 nil : {A : Type 0} (xs : List A) → xs ++ [] ≡ xs
 nil [] = refl
 nil {A} (x ∷ xs) = ap (λ (z : List A). x ∷ z) (nil xs)
+
+-- the edge that makes a point stands among the edges exactly if the point is there
+maker-last : (q : ℕ) (es : List Edge) (e : Edge) (p : Place) → maker q (es ++ (e ∷ [])) ≡ Some p → (maker q es ≡ Some p) ⊎ (e .target ≡ q)
+maker-last q [] e p h = go (eqb (e .target) q) refl h
+  where
+    go : (b : Bool) → eqb (e .target) q ≡ b → cond b (Some (e .place)) None ≡ Some p → (None ≡ Some p) ⊎ (e .target ≡ q)
+    go true k h = inr (eqb-true (e .target) q k)
+    go false k h = inl h
+maker-last q (x ∷ es) e p h = go (eqb (x .target) q) h (maker-last q es e p)
+  where
+    go : (b : Bool) → cond b (Some (x .place)) (maker q (es ++ (e ∷ []))) ≡ Some p → (maker q (es ++ (e ∷ [])) ≡ Some p → (maker q es ≡ Some p) ⊎ (e .target ≡ q)) →
+        (cond b (Some (x .place)) (maker q es) ≡ Some p) ⊎ (e .target ≡ q)
+    go true h ih = inl h
+    go false h ih = ih h
+
+maker-below : {es : List Edge} {n : ℕ} → Made es n → (q : ℕ) (p : Place) → maker q es ≡ Some p → q < n
+maker-below none q p h = no-some h
+maker-below (next {es = es} {n = n} e m s t) q p h = go (maker-last q es e p h) (maker-below m q p)
+  where
+    go : (maker q es ≡ Some p) ⊎ (e .target ≡ q) → (maker q es ≡ Some p → q < n) → q < suc n
+    go (inl k) ih = let l = ih k in omega arith
+    go (inr k) ih = omega arith
+maker-below (again {es = es} {n = n} e m s t u) q p h = go (maker-last q es e p h) (maker-below m q p)
+  where
+    go : (maker q es ≡ Some p) ⊎ (e .target ≡ q) → (maker q es ≡ Some p → q < n) → q < n
+    go (inl k) ih = ih k
+    go (inr k) ih = omega arith
 
 -- a refusal of the declarations, of the statements, or of what is left behind them
 pub refuses-heads : (t : Text) (r : Refusal) → Refuses (heads ∷ []) At-start t r → refusal at-first [] t ≡ said r
@@ -79,12 +114,22 @@ module _ {vs : List Variable} {ts : List a-table} {t t₁ : Text} (h : Declared 
         passes : Passes [] (text bs) tree
         passes = subst (λ (z : Text). Passes [] z tree) f (passes-with t tree is-script (behind-body ∙ ap (refusal [] (passed (b .words) (passed (h .words) []))) e))
 
-        pub verdict-fine : d .points ≤ 96 → Verdict bs (drawn (finished vs ts d))
-        verdict-fine l = subst (λ (g : Graph). Verdict bs (drawn g)) is-drawn (fine short (reads-text bs) passes (subst (λ (g : Graph). g .points ≤ 96) (sym is-drawn) l))
+        made : Made (d .edges) (d .points)
+        made = subst (λ (g : Graph). Made (g .edges) (g .points)) is-drawn (graph-made tree)
 
-        pub verdict-many : (q : Place) → 96 < d .points → maker 96 (d .edges) ≡ Some q → Verdict bs (refused 13 (Some q))
-        verdict-many q l k =
-            too-many short (reads-text bs) passes (subst (λ (g : Graph). 96 < g .points) (sym is-drawn) l) (subst (λ (g : Graph). maker 96 (g .edges) ≡ Some q) (sym is-drawn) k)
+        -- no edge makes point 96
+        pub verdict-fine : maker 96 (d .edges) ≡ None → Verdict bs (drawn (finished vs ts d))
+        verdict-fine k =
+            subst (λ (g : Graph). Verdict bs (drawn g)) is-drawn (fine short (reads-text bs) passes (subst (λ (g : Graph). g .points ≤ 96) (sym is-drawn) (go (cases-lt 96 (d .points)))))
+          where
+            go : (96 < d .points) ⊎ (d .points ≤ 96) → d .points ≤ 96
+            go (inl l) = no-some (sym k ∙ maker-some made 96 (omega arith) l .1)
+            go (inr l) = l
+
+        -- an edge makes it
+        pub verdict-many : (q : Place) → maker 96 (d .edges) ≡ Some q → Verdict bs (refused 13 (Some q))
+        verdict-many q k =
+            too-many short (reads-text bs) passes (subst (λ (g : Graph). 96 < g .points) (sym is-drawn) (maker-below made 96 q k)) (subst (λ (g : Graph). maker 96 (g .edges) ≡ Some q) (sym is-drawn) k)
 
 -- the verdict of a refusal at a word
 pub verdict-refused : (bs : List ℕ) (t : Text) (r : Refusal) (p : Place) → length bs ≤ 8192 → t ≡ text bs → r .place ≡ Some p → refusal at-first [] t ≡ said r →

@@ -81,9 +81,11 @@ split-at (suc n) es p h = go (cases-lt p n) (split-at n es p)
   where
     go : (p < n) ⊎ (n ≤ p) → (p < n → (rest : List Edge) × (grouped n es ≡ grouped p es ++ (incoming p es ++ rest))) → (rest : List Edge) × (grouped (suc n) es ≡ grouped p es ++ (incoming p es ++ rest))
     go (inl k) ih =
-        let s = ih k in
-        (s .0 ++ incoming n es, ap (λ (z : List Edge). z ++ incoming n es) (s .1) ∙ append-assoc (grouped p es) (incoming p es ++ s .0) (incoming n es) ∙
-        ap (λ (z : List Edge). grouped p es ++ z) (append-assoc (incoming p es) (s .0) (incoming n es)))
+        let s = ih k in (
+          s .0 ++ incoming n es,
+          ap (λ (z : List Edge). z ++ incoming n es) (s .1) ∙ append-assoc (grouped p es) (incoming p es ++ s .0) (incoming n es) ∙
+              ap (λ (z : List Edge). grouped p es ++ z) (append-assoc (incoming p es) (s .0) (incoming n es)),
+        )
     go (inr k) ih =
         let e : n ≡ p = omega arith in
         ([], ap (λ (m : ℕ). grouped m es ++ incoming m es) e ∙ ap (λ (z : List Edge). grouped p es ++ z) (sym (nil (incoming p es))))

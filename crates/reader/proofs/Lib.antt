@@ -4,3 +4,4 @@ pub mod Naming
 pub mod Siding
 pub mod Guarding
 pub mod Grouped
+pub mod Verdict

@@ -84,7 +84,8 @@ impl Names {
     pub fn has(&self, name: &[u8]) -> bool
         ensures { λ r. ⌜ r ≡ (among (now (name .entry)) (var-names (vars-of (now (self .entry)))) || among (now (name .entry)) (table-names (tabs-of (now (self .entry))))) ⌝ }
     {
-        position(self.variables.as_slice(), name).is_some() || position(self.tables.as_slice(), name).is_some()
+        position(self.variables.as_slice(), name).is_some()
+            || position(self.tables.as_slice(), name).is_some()
     }
 
     // The number of the variable of this name, which stands at this place.

@@ -41,9 +41,10 @@ fn unexpected(found: Found) -> Refusal
 {
     match found {
         Found::Fault(reason, place) => Refusal::at(reason, place),
-        Found::Name(_, place) | Found::Number(_, place) | Found::Sign(_, place) | Found::End(place) => {
-            Refusal::at(Reason::Unexpected, place)
-        }
+        Found::Name(_, place)
+        | Found::Number(_, place)
+        | Found::Sign(_, place)
+        | Found::End(place) => { Refusal::at(Reason::Unexpected, place) }
     }
 }
 

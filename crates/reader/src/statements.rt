@@ -24,7 +24,15 @@ use refusal::Refusal;
 use words::Mark;
 
 // Draws a table read: index at least 0, index at most size - 1, then any of the table's range.
-fn look_up(names: &Names, d: &mut Drawing, place: Place, k: usize, table: usize, index: usize, at: Place) -> Result<(), Refusal>
+fn look_up(
+    names: &Names,
+    d: &mut Drawing,
+    place: Place,
+    k: usize,
+    table: usize,
+    index: usize,
+    at: Place,
+) -> Result<(), Refusal>
     ensures { λ r. ⌜ Cases r (λ _. (drawn-so (now (d .exit))) ≡ assigned (vars-of (now (names .entry))) (tabs-of (now (names .entry))) place k (Reading table index at) (drawn-so (now (d .entry)))) (λ e. e ≡ no-memory) ⌝ }
 {
     let (size, range) = names.shape(table);
@@ -35,11 +43,20 @@ fn look_up(names: &Names, d: &mut Drawing, place: Place, k: usize, table: usize,
 }
 
 // Draws the assignment of a right side.
-fn assign(names: &Names, d: &mut Drawing, place: Place, k: usize, right: Side) -> Result<(), Refusal>
+fn assign(
+    names: &Names,
+    d: &mut Drawing,
+    place: Place,
+    k: usize,
+    right: Side,
+) -> Result<(), Refusal>
     ensures { λ r. ⌜ Cases r (λ _. (drawn-so (now (d .exit))) ≡ assigned (vars-of (now (names .entry))) (tabs-of (now (names .entry))) place k right (drawn-so (now (d .entry)))) (λ e. e ≡ no-memory) ⌝ }
 {
     match right {
-        Side::Constant(c) => d.onward(Action::Any(k, Range { low: c, high: c }, Source::Written), place),
+        Side::Constant(c) => d.onward(
+            Action::Any(k, Range { low: c, high: c }, Source::Written),
+            place,
+        ),
         Side::Shifted(i, c) => d.onward(Action::Shift(k, i, c), place),
         Side::Negated(i) => d.onward(Action::Negate(k, i), place),
         Side::Any(source, range) => d.onward(Action::Any(k, range, source), place),
@@ -101,7 +118,12 @@ fn read_else(s: &mut Sentence, names: &Names, d: &mut Drawing, levels: u8) -> Re
 }
 
 // Takes while condition block.
-fn read_repetition(s: &mut Sentence, names: &Names, d: &mut Drawing, levels: u8) -> Result<(), Refusal>
+fn read_repetition(
+    s: &mut Sentence,
+    names: &Names,
+    d: &mut Drawing,
+    levels: u8,
+) -> Result<(), Refusal>
     ensures { λ r. ⌜ Cases r (λ _. Statement (vars-of (now (names .entry))) (tabs-of (now (names .entry))) levels (left (now (s .entry))) (left (now (s .exit))) (drawn-so (now (d .entry))) (drawn-so (now (d .exit)))) (λ e. Turns-back repeating (Starts (vars-of (now (names .entry))) (tabs-of (now (names .entry))) levels) (left (now (s .entry))) e) ⌝ }
 {
     let place = s.mark(Mark::While)?;
@@ -129,7 +151,12 @@ fn read_block(s: &mut Sentence, names: &Names, d: &mut Drawing, levels: u8) -> R
 }
 
 // Takes a statement, where one begins.
-fn read_statement(s: &mut Sentence, names: &Names, d: &mut Drawing, levels: u8) -> Result<(), Refusal>
+fn read_statement(
+    s: &mut Sentence,
+    names: &Names,
+    d: &mut Drawing,
+    levels: u8,
+) -> Result<(), Refusal>
     ensures { λ r. ⌜ Cases r (λ _. Statement (vars-of (now (names .entry))) (tabs-of (now (names .entry))) levels (left (now (s .entry))) (left (now (s .exit))) (drawn-so (now (d .entry))) (drawn-so (now (d .exit)))) (λ e. begins-statement (left (now (s .entry))) ≡ true → Turns-back (body ∷ []) (Starts (vars-of (now (names .entry))) (tabs-of (now (names .entry))) levels) (left (now (s .entry))) e) ⌝ }
 {
     if s.at(Mark::If) {
@@ -142,7 +169,12 @@ fn read_statement(s: &mut Sentence, names: &Names, d: &mut Drawing, levels: u8) 
 }
 
 // Takes statements up to a word that begins none. Blocks may nest so many levels deeper.
-pub fn read_statements(s: &mut Sentence, names: &Names, d: &mut Drawing, levels: u8) -> Result<(), Refusal>
+pub fn read_statements(
+    s: &mut Sentence,
+    names: &Names,
+    d: &mut Drawing,
+    levels: u8,
+) -> Result<(), Refusal>
     ensures { λ r. ⌜ Cases r (λ _. Stated (vars-of (now (names .entry))) (tabs-of (now (names .entry))) levels (left (now (s .entry))) (left (now (s .exit))) (drawn-so (now (d .entry))) (drawn-so (now (d .exit))) × (begins-statement (left (now (s .exit))) ≡ false)) (λ e. Turns-back (body ∷ []) (Starts (vars-of (now (names .entry))) (tabs-of (now (names .entry))) levels) (left (now (s .entry))) e) ⌝ }
 {
     while s.at_statement() {

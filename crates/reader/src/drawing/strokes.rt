@@ -35,12 +35,13 @@ impl Drawing {
         ensures { λ r. ⌜ Cases r (λ _. drawn-so (now (self .exit)) ≡ fresh action place (drawn-so (now (self .entry)))) (λ e. e ≡ no-memory) ⌝ }
     {
         let target = self.points;
-        self.edges.push(Edge {
-            source: self.here,
-            target,
-            action,
-            place,
-        })?;
+        self.edges
+            .push(Edge {
+                source: self.here,
+                target,
+                action,
+                place,
+            })?;
         self.points = target + 1;
         self.here = target;
         Ok(())
@@ -50,12 +51,13 @@ impl Drawing {
     pub fn back(&mut self, target: usize, place: Place) -> Result<(), Refusal>
         ensures { λ r. ⌜ Cases r (λ _. drawn-so (now (self .exit)) ≡ led-back Skip place target (drawn-so (now (self .entry)))) (λ e. e ≡ no-memory) ⌝ }
     {
-        self.edges.push(Edge {
-            source: self.here,
-            target,
-            action: Action::Skip,
-            place,
-        })?;
+        self.edges
+            .push(Edge {
+                source: self.here,
+                target,
+                action: Action::Skip,
+                place,
+            })?;
         Ok(())
     }
 
@@ -70,12 +72,13 @@ impl Drawing {
     pub fn note(&mut self, index: usize, table: usize, place: Place) -> Result<(), Refusal>
         ensures { λ r. ⌜ Cases r (λ _. drawn-so (now (self .exit)) ≡ noted (record { point = now (self .entry) .here; index = index; table = table; place = place }) (drawn-so (now (self .entry)))) (λ e. e ≡ no-memory) ⌝ }
     {
-        self.lookups.push(Lookup {
-            point: self.here,
-            index,
-            table,
-            place,
-        })?;
+        self.lookups
+            .push(Lookup {
+                point: self.here,
+                index,
+                table,
+                place,
+            })?;
         Ok(())
     }
 

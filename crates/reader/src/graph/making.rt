@@ -30,7 +30,12 @@ fn gather(edges: &[Edge], point: usize, inward: &mut Vec<Edge>) -> Result<(), Re
 }
 
 // The edges point by point, and where those to each point begin.
-fn group(edges: &[Edge], points: usize, inward: &mut Vec<Edge>, starts: &mut Vec<usize>) -> Result<(), Refusal>
+fn group(
+    edges: &[Edge],
+    points: usize,
+    inward: &mut Vec<Edge>,
+    starts: &mut Vec<usize>,
+) -> Result<(), Refusal>
     ensures { λ r. ⌜ (vec-items (now (inward .entry)) ≡ [] → vec-items (now (starts .entry)) ≡ [] → Cases r (λ _. (vec-items (now (inward .exit)) ≡ grouped points (now (edges .entry))) × (vec-items (now (starts .exit)) ≡ offsets points (now (edges .entry)))) (λ e. e ≡ no-memory)) ⌝ }
 {
     starts.push(inward.len())?;

@@ -45,6 +45,9 @@ returns c =
     let n = c .args .names .now in
     let h = c .in-Continue-left .ensures tt in
     let o = c .in-Continue-order .ensures tt in
-    let v = c .in-Continue-right .ensures tt in
-    (compares (c .in-Continue-name .name .now) (o .0) (v .0), (λ i. record { left = h .1 i; order = o .1 i; right = v .1 i }), v .2,
-    over-condition (vars-of n) (tabs-of n) (c .in-Continue-name .ensures tt) (h .0) (o .2) (v .0) _ (v .3))
+    let v = c .in-Continue-right .ensures tt in (
+      compares (c .in-Continue-name .name .now) (o .0) (v .0),
+      (λ i. record { left = h .1 i; order = o .1 i; right = v .1 i }),
+      v .2,
+      over-condition (vars-of n) (tabs-of n) (c .in-Continue-name .ensures tt) (h .0) (o .2) (v .0) _ (v .3),
+    )

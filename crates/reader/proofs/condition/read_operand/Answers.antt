@@ -41,9 +41,12 @@ returns-then-same-name c =
 pub returns-then-at-name : need.returns-then-at-name
 returns-then-at-name c =
     let n = c .args .names .now in
-    let h = c .in-Continue-k .ensures tt in
-    (against (c .in-Continue-name .name .now), ap Against (h .1), tt,
-    over-against (vars-of n) (tabs-of n) (c .args .left .now) _ _ _ _ (c .in-Continue-name .ensures tt) (h .0) (sym (c .if-same-name .ensures tt)))
+    let h = c .in-Continue-k .ensures tt in (
+      against (c .in-Continue-name .name .now),
+      ap Against (h .1),
+      tt,
+      over-against (vars-of n) (tabs-of n) (c .args .left .now) _ _ _ _ (c .in-Continue-name .ensures tt) (h .0) (sym (c .if-same-name .ensures tt)),
+    )
 
 pub returns-in-Break-c : need.returns-in-Break-c
 returns-in-Break-c c =
@@ -56,7 +59,10 @@ returns c =
     let n = c .args .names .now in
     let h = c .in-Continue-c .ensures tt in
     let z = c .in-Continue-c .c in
-    let e : z ≡ toZ w64 (ofZ w64 z) = sym (toZ-ofZ w64 z (search needs)) in
-    (limit (toZ w64 (ofZ w64 z)), refl, subst Small e (h .small),
-    over-limit (vars-of n) (tabs-of n) (c .args .left .now) _ _ (left (c .args .s .now)) (left (c .constant .last .self)) (sym (c .if-at-name .ensures tt))
-    (subst (λ (x : ℤ). Constant x (c .in-Continue-c .field-0-1) (left (c .args .s .now)) (left (c .constant .last .self))) e (h .read)))
+    let e : z ≡ toZ w64 (ofZ w64 z) = sym (toZ-ofZ w64 z (search needs)) in (
+      limit (toZ w64 (ofZ w64 z)),
+      refl,
+      subst Small e (h .small),
+      over-limit (vars-of n) (tabs-of n) (c .args .left .now) _ _ (left (c .args .s .now)) (left (c .constant .last .self)) (sym (c .if-at-name .ensures tt))
+          (subst (λ (x : ℤ). Constant x (c .in-Continue-c .field-0-1) (left (c .args .s .now)) (left (c .constant .last .self))) e (h .read)),
+    )

@@ -49,9 +49,11 @@ returns-then-at c =
     let h = c .in-Continue-table .ensures tt in
     let b = sym (c .if-at .ensures tt) in
     let m = taken-mark OpenBracket _ (left (c .name .last .self)) (left (c .take .last .self)) (c .take .ensures) b in
-    let i = c .in-Continue-index .ensures tt in
-    (reading (c .in-Continue-name .name .now) (i .0) (c .in-Continue-index .at), (λ j. Reading (h .1 j) (i .1 j) (c .in-Continue-index .at)),
-    side-reading (vars-of n) (tabs-of n) (c .in-Continue-name .ensures tt) b (h .0) (m .1) (i .0) (c .in-Continue-index .at) _ (i .2))
+    let i = c .in-Continue-index .ensures tt in (
+      reading (c .in-Continue-name .name .now) (i .0) (c .in-Continue-index .at),
+      (λ j. Reading (h .1 j) (i .1 j) (c .in-Continue-index .at)),
+      side-reading (vars-of n) (tabs-of n) (c .in-Continue-name .ensures tt) b (h .0) (m .1) (i .0) (c .in-Continue-index .at) _ (i .2),
+    )
 
 pub returns-in-Break-i : need.returns-in-Break-i
 returns-in-Break-i c =

@@ -33,7 +33,7 @@ part-requires-2 c κs =
     let h = c .if-point-self .left in
     let a : c .index-from .result .now ≡ length (grouped p es) = c .index-from .ensures ∙ ap (λ (xs : List ℕ). getD xs p (c .index-from .result .now)) (g .starting) ∙ offset-at (g .points) es p _ (omega arith) in
     let b : c .index-to .result .now ≡ length (grouped (p + 1) es) = c .index-to .ensures ∙ ap (λ (xs : List ℕ). getD xs (p + 1) (c .index-to .result .now)) (g .starting) ∙ offset-at (g .points) es (p + 1) _ (omega arith) in
-    (part-starts (g .points) es p _ _ h a b, subst (λ (xs : List Edge). c .index-to .result .now ≤ length xs) (sym (c .as-slice-inward .ensures .value ∙ g .by-target)) (part-ends (g .points) es p _ _ h a b))
+    (part-starts (g .points) es p _ _ h a b, subst (λ (xs : List Edge). c .index-to .result .now ≤ length xs) (sym (c .as-slice-inward .ensures .value ∙ g .«by_target»)) (part-ends (g .points) es p _ _ h a b))
 
 pub returns : need.returns
 returns c =
@@ -43,5 +43,5 @@ returns c =
     let h = c .if-point-self .left in
     let a : c .index-from .result .now ≡ length (grouped p es) = c .index-from .ensures ∙ ap (λ (xs : List ℕ). getD xs p (c .index-from .result .now)) (g .starting) ∙ offset-at (g .points) es p _ (omega arith) in
     let b : c .index-to .result .now ≡ length (grouped (p + 1) es) = c .index-to .ensures ∙ ap (λ (xs : List ℕ). getD xs (p + 1) (c .index-to .result .now)) (g .starting) ∙ offset-at (g .points) es (p + 1) _ (omega arith) in
-    c .part-2 .ensures ∙ ap (λ (xs : List Edge). take (c .index-to .result .now - c .index-from .result .now) (drop (c .index-from .result .now) xs)) (c .as-slice-inward .ensures .value ∙ g .by-target) ∙
+    c .part-2 .ensures ∙ ap (λ (xs : List Edge). take (c .index-to .result .now - c .index-from .result .now) (drop (c .index-from .result .now) xs)) (c .as-slice-inward .ensures .value ∙ g .«by_target») ∙
     part-is (g .points) es p _ _ h a b ∙ sym (cond-true (ltb p (g .points)) (incoming p es) [] (lt-ltb p (g .points) h))

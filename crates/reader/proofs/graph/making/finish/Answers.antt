@@ -30,12 +30,25 @@ ghost-result c =
     let a = w .2 in
     let b = w .3 in
     let g = c .in-Continue-group .ensures tt (c .new-inward .ensures .items) (c .new-starts .ensures .items) in
-    let s = c .as-slice .ensures .value in
-    (w .1,
-    (subst (λ (m : ℕ). m ≤ 8) v a,
-    (subst (λ (m : ℕ). m ≤ 8) t b,
-    (edges-fit n (vec-len vars) es (made-ends (well .made)) (subst (λ (m : ℕ). Each (λ (e : Edge). Below m (e .action)) es) v (well .actions)),
-    (lookups-fit n (vec-len vars) (vec-len tabs) ls (subst (λ (m : ℕ). Each (λ (l : Lookup). (l .point < n) × (l .index < m) × (l .table < vec-len tabs)) ls) v (subst (λ (m : ℕ). Each (λ (l : Lookup). (l .point < n) × (l .index < length (map variable-of (vec-items vars))) × (l .table < m)) ls) t (well .reads))),
-    (g .0 ∙ ap (grouped n) s,
-    (g .1 ∙ ap (offsets n) s,
-    (∣ c .pre ∣₁, tt))))))))
+    let s = c .as-slice .ensures .value in (
+      w .1,
+      (
+        subst (λ (m : ℕ). m ≤ 8) v a,
+        (
+          subst (λ (m : ℕ). m ≤ 8) t b,
+          (
+            edges-fit n (vec-len vars) es (made-ends (well .made)) (subst (λ (m : ℕ). Each (λ (e : Edge). Below m (e .action)) es) v (well .actions)),
+            (
+              lookups-fit n (vec-len vars) (vec-len tabs) ls (subst (λ (m : ℕ). Each (λ (l : Lookup). (l .point < n) × (l .index < m) × (l .table < vec-len tabs)) ls) v (subst (λ (m : ℕ). Each (λ (l : Lookup). (l .point < n) × (l .index < length (map variable-of (vec-items vars))) × (l .table < m)) ls) t (well .reads))),
+              (
+                g .0 ∙ ap (grouped n) s,
+                (
+                  g .1 ∙ ap (offsets n) s,
+                  (∣ c .pre ∣₁, tt),
+                ),
+              ),
+            ),
+          ),
+        ),
+      ),
+    )
