@@ -1,0 +1,4 @@
+pub mod Edges
+pub mod Listings
+pub mod Names
+pub mod Refusals
