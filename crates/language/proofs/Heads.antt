@@ -24,7 +24,8 @@ use Rattle.language.specs.Names.{rule, names-behind, next-is-bracket}
 use Rattle.language.specs.Expected.{Expect, one, step, refusal, refuse}
 use Rattle.language.specs.Expected.Expect.{just, heads, span}
 use Rattle.language.specs.Expected.Terminal.{any-name, any-number}
-use Rattle.language.specs.Readings.{before, passed, first-is, Refuses, Anywhere, Over, Quiet, is-span, Boundary, Known, Starts, Declares, Declared, varying, tabling}
+use Rattle.language.specs.Readings.{before, passed, first-is, Refuses, Anywhere, Over, Quiet, is-span, Boundary, Known, New, Starts, Declares, Declared, varying, tabling}
+use Rattle.language.specs.Readings.New.{new-variable, new-table}
 use Rattle.language.specs.Readings.Boundary.{at-start, behind-semicolon}
 use Rattle.language.proofs.Passing.{pass-word, broken-word, decided-word}
 use Rattle.language.proofs.Steps.{before-++, passed-++, words-before, first-mark}
@@ -100,7 +101,6 @@ length-table-names : (ts : List a-table) → length (table-names ts) ≡ length 
 length-table-names [] = refl
 length-table-names (t ∷ ts) = ap suc (length-table-names ts)
 
--- the rules at a new name
 abbrev at-new : Bool → Bool → ℕ
 at-new known many = cond known 7 (cond many 12 0)
 
@@ -119,34 +119,45 @@ quiet-equals : (past : List Word) (q : Place) → Quiet (mark Equals q ∷ past)
 quiet-equals past q = record { minus = refl; dots = refl; bracket = refl }
 
 module _ (vs : List Variable) (ts : List a-table) where
+  -- the rules at a new name
+  new-rule : (full : Bool) {past : List Word} → New vs ts full past → (n : List ℕ) (p : Place) (b : Bool) →
+      rule past (name n p) b ≡ at-new (among n (var-names vs) || among n (table-names ts)) full
+  new-rule full (new-variable {past = past} y i) n p b =
+      ap (λ (b : Bool). at-new (among n (names-behind Var past) || among n (names-behind Table past)) b) (or-false (leb 8 (length (names-behind Var past)))) ∙
+      ap (λ (a : List (List ℕ)). at-new (among n a || among n (names-behind Table past)) (leb 8 (length a))) (y .vars) ∙
+      ap (λ (a : List (List ℕ)). at-new (among n (var-names vs) || among n a) (leb 8 (length (var-names vs)))) (y .tabs) ∙
+      ap (at-new (among n (var-names vs) || among n (table-names ts))) (ap (leb 8) (length-var-names vs) ∙ i)
+  new-rule full (new-table {past = past} y i) n p b =
+      ap (λ (a : List (List ℕ)). at-new (among n a || among n (names-behind Table past)) (leb 8 (length (names-behind Table past)))) (y .vars) ∙
+      ap (λ (a : List (List ℕ)). at-new (among n (var-names vs) || among n a) (leb 8 (length a))) (y .tabs) ∙
+      ap (at-new (among n (var-names vs) || among n (table-names ts))) (ap (leb 8) (length-table-names ts) ∙ i)
+
+  pub new-decides : (known full : Bool) (n : List ℕ) (p : Place) (t t₁ : Text) → t ≡ reads (name n p) t₁ → (among n (var-names vs) || among n (table-names ts)) ≡ known →
+      (k : List Expect) (past : List Word) → New vs ts full past →
+      refusal (just any-name ∷ k) past t ≡ cond known (refuse 7 p) (cond full (refuse 12 p) (refusal k (name n p ∷ past) t₁))
+  new-decides known full n p t t₁ e h k past y =
+      ap (refusal (just any-name ∷ k) past) e ∙
+      new-word (just any-name ∷ k) k past n p t₁ known full refl (new-rule full y n p (next-is-bracket t₁) ∙ ap (λ (b : Bool). at-new b full) h)
+
   -- var name = range ;
   pub heads-varying : (t : Text) (k : List Expect) (past : List Word) → first-is Var t ≡ true → refusal (heads ∷ k) past t ≡ refusal (varying ++ (heads ∷ k)) past t
   heads-varying t k past e = let h = first-mark Var t e in ap (refusal (heads ∷ k) past) (h .2) ∙ ap (refusal (varying ++ (heads ∷ k)) past) (sym (h .2))
 
   module _ {v : Place} {t t₁ : Text} (e : t ≡ reads (mark Var v) t₁) where
-    pub refuses-variable-name : (r : Refusal) → Refuses (just any-name ∷ []) Anywhere t₁ r → Refuses varying (Starts vs ts 8) t r
-    refuses-variable-name r i k past y = ap (refusal (varying ++ k) past) e ∙ i (one Equals ∷ span ∷ one Semicolon ∷ k) _ tt
+    pub refuses-variable-name : (full : Bool) → leb 8 (length vs) ≡ full → (r : Refusal) → Refuses (just any-name ∷ []) (New vs ts full) t₁ r → Refuses varying (Starts vs ts 8) t r
+    refuses-variable-name full l r i k past y = ap (refusal (varying ++ k) past) e ∙ i (one Equals ∷ span ∷ one Semicolon ∷ k) _ (new-variable (y .known) l)
 
     module _ {n : List ℕ} {p : Place} {t₂ : Text} (f : t₁ ≡ reads (name n p) t₂) where
-      pub variable-decides-name : (known many : Bool) → (among n (var-names vs) || among n (table-names ts)) ≡ known → leb 8 (length vs) ≡ many →
-          (k : List Expect) (past : List Word) → Starts vs ts 8 past →
-          refusal (varying ++ k) past t ≡ cond known (refuse 7 p) (cond many (refuse 12 p) (refusal (one Equals ∷ span ∷ one Semicolon ∷ k) (name n p ∷ mark Var v ∷ past) t₂))
-      variable-decides-name known many h i k past y =
-          ap (refusal (varying ++ k) past) (e ∙ ap (reads (mark Var v)) f) ∙
-          new-word (just any-name ∷ one Equals ∷ span ∷ one Semicolon ∷ k) _ (mark Var v ∷ past) n p t₂ known many refl
-          (ap (λ (b : Bool). cond (among n (names-behind Var past) || among n (names-behind Table past)) 7 (cond b 12 0)) (or-false (leb 8 (length (names-behind Var past)))) ∙
-          ap (λ (a : List (List ℕ)). cond (among n a || among n (names-behind Table past)) 7 (cond (leb 8 (length a)) 12 0)) (y .known .vars) ∙
-          ap (λ (a : List (List ℕ)). cond (among n (var-names vs) || among n a) 7 (cond (leb 8 (length (var-names vs))) 12 0)) (y .known .tabs) ∙
-          ap (λ (a : Bool). cond a 7 (cond (leb 8 (length (var-names vs))) 12 0)) h ∙
-          ap (λ (a : Bool). cond known 7 (cond a 12 0)) (ap (leb 8) (length-var-names vs) ∙ i))
-
       module _ (h : (among n (var-names vs) || among n (table-names ts)) ≡ false) (i : leb 8 (length vs) ≡ false) where
+        named : (k : List Expect) (past : List Word) → Starts vs ts 8 past → refusal (varying ++ k) past t ≡ refusal (one Equals ∷ span ∷ one Semicolon ∷ k) (name n p ∷ mark Var v ∷ past) t₂
+        named k past y = ap (refusal (varying ++ k) past) e ∙ new-decides false false n p t₁ t₂ f h (one Equals ∷ span ∷ one Semicolon ∷ k) (mark Var v ∷ past) (new-variable (y .known) i)
+
         pub refuses-equals : (r : Refusal) → Refuses (one Equals ∷ []) Anywhere t₂ r → Refuses varying (Starts vs ts 8) t r
-        refuses-equals r j k past y = variable-decides-name false false h i k past y ∙ j (span ∷ one Semicolon ∷ k) _ tt
+        refuses-equals r j k past y = named k past y ∙ j (span ∷ one Semicolon ∷ k) _ tt
 
         module _ {q : Place} {t₃ : Text} (g : t₂ ≡ reads (mark Equals q) t₃) where
           at-range : (k : List Expect) (past : List Word) → Starts vs ts 8 past → refusal (varying ++ k) past t ≡ refusal (span ∷ one Semicolon ∷ k) (mark Equals q ∷ name n p ∷ mark Var v ∷ past) t₃
-          at-range k past y = variable-decides-name false false h i k past y ∙ ap (refusal (one Equals ∷ span ∷ one Semicolon ∷ k) (name n p ∷ mark Var v ∷ past)) g
+          at-range k past y = named k past y ∙ ap (refusal (one Equals ∷ span ∷ one Semicolon ∷ k) (name n p ∷ mark Var v ∷ past)) g
 
           pub refuses-range : (r : Refusal) → Refuses (span ∷ []) Quiet t₃ r → Refuses varying (Starts vs ts 8) t r
           refuses-range r j k past y = at-range k past y ∙ j (one Semicolon ∷ k) _ (quiet-equals _ q)
@@ -197,30 +208,25 @@ module _ (vs : List Variable) (ts : List a-table) where
   heads-tabling t k past e = let h = first-mark Table t e in ap (refusal (heads ∷ k) past) (h .2) ∙ ap (refusal (tabling ++ (heads ∷ k)) past) (sym (h .2))
 
   module _ {v : Place} {t t₁ : Text} (e : t ≡ reads (mark Table v) t₁) where
-    pub refuses-table-name : (r : Refusal) → Refuses (just any-name ∷ []) Anywhere t₁ r → Refuses tabling (Starts vs ts 8) t r
-    refuses-table-name r i k past y = ap (refusal (tabling ++ k) past) e ∙ i (one OpenBracket ∷ just any-number ∷ one CloseBracket ∷ one Equals ∷ span ∷ one Semicolon ∷ k) _ tt
+    pub refuses-table-name : (full : Bool) → leb 8 (length ts) ≡ full → (r : Refusal) → Refuses (just any-name ∷ []) (New vs ts full) t₁ r → Refuses tabling (Starts vs ts 8) t r
+    refuses-table-name full l r i k past y =
+        ap (refusal (tabling ++ k) past) e ∙ i (one OpenBracket ∷ just any-number ∷ one CloseBracket ∷ one Equals ∷ span ∷ one Semicolon ∷ k) _ (new-table (y .known) l)
 
     module _ {n : List ℕ} {p : Place} {t₂ : Text} (f : t₁ ≡ reads (name n p) t₂) where
-      pub table-decides-name : (known many : Bool) → (among n (var-names vs) || among n (table-names ts)) ≡ known → leb 8 (length ts) ≡ many →
-          (k : List Expect) (past : List Word) → Starts vs ts 8 past →
-          refusal (tabling ++ k) past t ≡
-          cond known (refuse 7 p) (cond many (refuse 12 p) (refusal (one OpenBracket ∷ just any-number ∷ one CloseBracket ∷ one Equals ∷ span ∷ one Semicolon ∷ k) (name n p ∷ mark Table v ∷ past) t₂))
-      table-decides-name known many h i k past y =
-          ap (refusal (tabling ++ k) past) (e ∙ ap (reads (mark Table v)) f) ∙
-          new-word (just any-name ∷ one OpenBracket ∷ just any-number ∷ one CloseBracket ∷ one Equals ∷ span ∷ one Semicolon ∷ k) _ (mark Table v ∷ past) n p t₂ known many refl
-          (ap (λ (a : List (List ℕ)). cond (among n a || among n (names-behind Table past)) 7 (cond (leb 8 (length (names-behind Table past))) 12 0)) (y .known .vars) ∙
-          ap (λ (a : List (List ℕ)). cond (among n (var-names vs) || among n a) 7 (cond (leb 8 (length a)) 12 0)) (y .known .tabs) ∙
-          ap (λ (a : Bool). cond a 7 (cond (leb 8 (length (table-names ts))) 12 0)) h ∙
-          ap (λ (a : Bool). cond known 7 (cond a 12 0)) (ap (leb 8) (length-table-names ts) ∙ i))
-
       module _ (h : (among n (var-names vs) || among n (table-names ts)) ≡ false) (i : leb 8 (length ts) ≡ false) where
+        table-named : (k : List Expect) (past : List Word) → Starts vs ts 8 past →
+            refusal (tabling ++ k) past t ≡ refusal (one OpenBracket ∷ just any-number ∷ one CloseBracket ∷ one Equals ∷ span ∷ one Semicolon ∷ k) (name n p ∷ mark Table v ∷ past) t₂
+        table-named k past y =
+            ap (refusal (tabling ++ k) past) e ∙
+            new-decides false false n p t₁ t₂ f h (one OpenBracket ∷ just any-number ∷ one CloseBracket ∷ one Equals ∷ span ∷ one Semicolon ∷ k) (mark Table v ∷ past) (new-table (y .known) i)
+
         pub refuses-open : (r : Refusal) → Refuses (one OpenBracket ∷ []) Anywhere t₂ r → Refuses tabling (Starts vs ts 8) t r
-        refuses-open r j k past y = table-decides-name false false h i k past y ∙ j (just any-number ∷ one CloseBracket ∷ one Equals ∷ span ∷ one Semicolon ∷ k) _ tt
+        refuses-open r j k past y = table-named k past y ∙ j (just any-number ∷ one CloseBracket ∷ one Equals ∷ span ∷ one Semicolon ∷ k) _ tt
 
         module _ {q : Place} {t₃ : Text} (g : t₂ ≡ reads (mark OpenBracket q) t₃) where
           at-size : (k : List Expect) (past : List Word) → Starts vs ts 8 past →
               refusal (tabling ++ k) past t ≡ refusal (just any-number ∷ one CloseBracket ∷ one Equals ∷ span ∷ one Semicolon ∷ k) (mark OpenBracket q ∷ name n p ∷ mark Table v ∷ past) t₃
-          at-size k past y = table-decides-name false false h i k past y ∙ ap (refusal (one OpenBracket ∷ just any-number ∷ one CloseBracket ∷ one Equals ∷ span ∷ one Semicolon ∷ k) (name n p ∷ mark Table v ∷ past)) g
+          at-size k past y = table-named k past y ∙ ap (refusal (one OpenBracket ∷ just any-number ∷ one CloseBracket ∷ one Equals ∷ span ∷ one Semicolon ∷ k) (name n p ∷ mark Table v ∷ past)) g
 
           pub refuses-size : (r : Refusal) → Refuses (just any-number ∷ []) Anywhere t₃ r → Refuses tabling (Starts vs ts 8) t r
           refuses-size r j k past y = at-size k past y ∙ j (one CloseBracket ∷ one Equals ∷ span ∷ one Semicolon ∷ k) _ tt

@@ -5,6 +5,7 @@ use mathlib.Core.Bool.{Bool, true, false, _||_}
 use mathlib.Core.List.{List, [], _∷_, _++_}
 use Prim.Native.Nat.{ℕ, _+_, suc, _≤_}
 use lib.ListN.{length}
+use lib.Dec.{leb}
 use lib.IntN.{ℤ, pos, negℤ}
 use Rattle.std.specs.declared.option.Option.{Option}
 use Rattle.std.specs.declared.option.Option.the-variants.{Some, None}
@@ -186,6 +187,11 @@ module _ (vs : List Variable) (ts : List a-table) where
   pub record Knows-compares (n : List ℕ) (past : List Word) : Type 0 where
     pub compares : Compares n past
     pub known : Known past
+
+  -- a name that stands here is declared by it, and there is no room for one more of its sort (full), or there is
+  pub data New (full : Bool) : List Word → Type 0 where
+    new-variable : {v : Place} {past : List Word} → Known past → leb 8 (length vs) ≡ full → New full (mark Var v ∷ past)
+    new-table : {v : Place} {past : List Word} → Known past → leb 8 (length ts) ≡ full → New full (mark Table v ∷ past)
 
   -- a statement may begin here, and blocks may nest so many levels deeper
   pub record Starts (levels : ℕ) (past : List Word) : Type 0 where

@@ -6,7 +6,7 @@ use Prim.Native.Nat.{ℕ, suc, zero, _+_, _<_, _≤_}
 use native.Mathlib.Omega.{arith}
 use lib.ListN.{length, take, drop, getD}
 use lib.Dec.{leb}
-use Rattle.std.proofs.shelf.Tests.{false≢true, or-parts, cond-true, cond-false, le-leb, lt-leb}
+use Rattle.std.proofs.shelf.Tests.{false≢true, or-parts, cond-true, cond-false}
 use Rattle.std.proofs.shelf.Lists.{take-more, drop-more, take-all, take-append-drop}
 use Rattle.words.specs.Words.{same, among}
 use Rattle.language.specs.Graphs as graphs
@@ -128,9 +128,6 @@ pub more-tables : (xs ys : List Table) (x : Table) (n : List ℕ) → ys ≡ xs 
     map table-of ys ≡ map table-of xs ++ (record { name = n; size = x .size; range = x .range } ∷ [])
 more-tables xs ys x n e f = ap (map table-of) e ∙ map-snoc table-of xs x ∙ ap (λ (m : List ℕ). map table-of xs ++ (record { name = m; size = x .size; range = x .range } ∷ [])) f
 
--- eight or more, or fewer
-pub full : {A B : Type 0} (f : A → B) (xs : List A) (n : ℕ) → n ≡ length xs → 8 ≤ n → leb 8 (length (map f xs)) ≡ true
-full f xs n e h = let k = length-of f xs in le-leb 8 (length (map f xs)) (omega arith)
-
-pub roomy : {A B : Type 0} (f : A → B) (xs : List A) (n : ℕ) → n ≡ length xs → n < 8 → leb 8 (length (map f xs)) ≡ false
-roomy f xs n e h = let k = length-of f xs in lt-leb 8 (length (map f xs)) (omega arith)
+-- as many as are counted
+pub counted : {A B : Type 0} (f : A → B) (xs : List A) (n : ℕ) → n ≡ length xs → leb 8 (length (map f xs)) ≡ leb 8 n
+counted f xs n e = ap (leb 8) (length-of f xs ∙ sym e)
