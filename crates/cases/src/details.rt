@@ -6,9 +6,9 @@ use listing::parts::Span;
 use listing::parts::SpanDisplay;
 use listing::parts::table_name;
 use listing::parts::variable_name;
-use reader::Table;
-use reader::Variable;
 use reader::graph::Graph;
+use sentences::Table;
+use sentences::Variable;
 use std::fmt;
 
 // The declarations, the table reads, where each edge was made, and the edges to each point.

@@ -10,7 +10,7 @@ use std::io;
 use std::io::Read;
 
 // One byte past the limit of a script tells that it is too long, so no more is read.
-const ENOUGH: usize = reader::MOST_BYTES + 1;
+const ENOUGH: usize = sentences::MOST_BYTES + 1;
 
 // The script on standard input, or as much of it as tells that it is too long.
 fn script_from_input(rt: &LibcRuntime) -> io::Result<Vec<u8>>

@@ -4,8 +4,8 @@ use Prim.Native.Nat.{ℕ}
 use lib.Chars.{codes}
 use lib.ListN.{getD}
 use Rattle.std.specs.Of.Vec.{vec-items}
-use Rattle.reader.specs.declared.Variable.{Variable}
-use Rattle.reader.specs.declared.Table.{Table}
+use Rattle.sentences.specs.declared.Variable.{Variable}
+use Rattle.sentences.specs.declared.Table.{Table}
 
 -- the name of that number, or ? where there is none
 abbrev pub named : List (List ℕ) → ℕ → List ℕ

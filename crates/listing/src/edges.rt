@@ -13,7 +13,7 @@ use language::Action;
 use language::Edge;
 use language::Range;
 use language::Source;
-use reader::Variable;
+use sentences::Variable;
 use std::fmt;
 
 // An edge with the variables that it speaks of.

@@ -5,8 +5,8 @@ ghost use Rattle.std.specs.declared.option.Option.the-variants.{Some};
 ghost use Rattle.listing.specs.Edges.{span-text};
 ghost use Rattle.listing.specs.Names.{named, variable-names, table-names};
 use language::Range;
-use reader::Table;
-use reader::Variable;
+use sentences::Table;
+use sentences::Variable;
 use std::fmt;
 
 // A name: letters, digits and _, a byte each.

@@ -1,7 +1,1 @@
-pub mod Exits
-pub mod Sentences
-pub mod Naming
-pub mod Siding
-pub mod Guarding
 pub mod Grouped
-pub mod Verdict

@@ -11,9 +11,9 @@ use Rattle.language.specs.declared.Action.{Action}
 use Rattle.language.specs.declared.Action.the-variants.{Skip, Any, Read, Shift, Negate, AtMost, AtLeast, Before}
 use Rattle.language.specs.declared.Edge.{Edge}
 use Rattle.language.specs.declared.Lookup.{Lookup}
-use Rattle.reader.specs.declared.Variable.{Variable}
-use Rattle.reader.specs.declared.Table.{Table}
-use Rattle.reader.specs.Models.{variable-of, table-of}
+use Rattle.sentences.specs.declared.Variable.{Variable}
+use Rattle.sentences.specs.declared.Table.{Table}
+use Rattle.sentences.specs.Models.{variable-of, table-of}
 
 -- the graph that these parts mean
 abbrev pub graph-of : List Variable → List Table → ℕ → List Edge → List Lookup → graphs.Graph

@@ -1,3 +1,2 @@
-pub mod Models
 pub mod Grouping
 pub mod Meaning

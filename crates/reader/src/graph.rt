@@ -4,10 +4,10 @@ ghost use mathlib.Core.Bool.{true};
 ghost use Prim.Native.Nat.{_≤_};
 ghost use Rattle.std.specs.Of.Vec.{vec-items, vec-len};
 ghost use Rattle.reader.specs.Grouping.{graph-of, Of-script, all, edge-fits, lookup-fits, grouped, offsets};
-use crate::Table;
-use crate::Variable;
 use language::Edge;
 use language::Lookup;
+use sentences::Table;
+use sentences::Variable;
 
 mod making;
 mod questions;

@@ -8,13 +8,13 @@ ghost use Rattle.refusal.specs.Reasons.{no-memory};
 ghost use Rattle.language.specs.Graphs.{finished};
 ghost use Rattle.reader.specs.Grouping.{Of-script, incoming, grouped, offsets};
 ghost use Rattle.reader.specs.Meaning.{meaning};
-ghost use Rattle.reader.specs.Models.{vars-of, tabs-of, drawn-so};
-use crate::drawing::Drawing;
+ghost use Rattle.sentences.specs.Models.{vars-of, tabs-of, drawn-so};
 use crate::graph::Graph;
-use crate::names::Names;
 use language::Edge;
 use refusal::Refusal;
 use refusal::RefusalFromRefused;
+use sentences::Drawing;
+use sentences::Names;
 use std::alloc::Global;
 
 // Adds the edges to a point.

@@ -7,11 +7,11 @@ ghost use lib.Dec.{ltb};
 ghost use lib.ListN.{length, take, drop};
 ghost use Rattle.std.specs.Of.Vec.{vec-items};
 ghost use Rattle.reader.specs.Grouping.{incoming as leading-to};
-use crate::Table;
-use crate::Variable;
 use crate::graph::Graph;
 use language::Edge;
 use language::Lookup;
+use sentences::Table;
+use sentences::Variable;
 
 // The edges from one place up to another.
 fn part(edges: &[Edge], from: usize, to: usize) -> &[Edge]

@@ -6,7 +6,7 @@ use lib.Chars.{codes}
 use lib.ListN.{length, getD, take}
 use Rattle.std.proofs.shelf.Lists.{take-more, take-all}
 use Rattle.language.specs.declared.Edge.{Edge}
-use Rattle.reader.specs.declared.Variable.{Variable}
+use Rattle.sentences.specs.declared.Variable.{Variable}
 use Rattle.listing.specs.Edges.{edge-line}
 use Rattle.listing.specs.Listings.{summary-text, edge-lines}
 use Rattle.listing.specs.Names.{variable-names}

@@ -10,9 +10,9 @@ use Rattle.language.specs.Graphs.{Each, Below}
 use Rattle.language.specs.declared.Edge.{Edge}
 use Rattle.language.specs.declared.Lookup.{Lookup}
 use Rattle.language.proofs.Verdicts.{drawn-well}
-use Rattle.reader.specs.Models.{variable-of, table-of}
+use Rattle.sentences.specs.Models.{variable-of, table-of}
 use Rattle.reader.specs.Grouping.{all, edge-fits, lookup-fits, grouped, offsets}
-use Rattle.reader.proofs.Naming.{length-of}
+use Rattle.sentences.proofs.Naming.{length-of}
 use Rattle.reader.proofs.Grouped.{made-ends, edges-fit, lookups-fit}
 use Rattle.reader.proofs.graph.making.finish.Needs as need
 
