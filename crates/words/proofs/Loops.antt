@@ -1,15 +1,21 @@
 -- Steps of the loops of the word reader.
 use mathlib.Core.Path.{_≡_, refl, sym, ap, _∙_}
-use mathlib.Core.Bool.{Bool, true, false, cond, not, _||_}
+use mathlib.Core.Bool.{Bool, true, false, cond, not, _||_, _&&_}
 use mathlib.Core.List.{List, [], _∷_, _++_}
 use Prim.Native.Nat.{ℕ, zero, suc, _≤_, _<_, _+_, _*_, _-_, _^_, min}
 use native.Mathlib.Omega.{arith}
 use lib.ListN.{length, drop, take, getD}
 use lib.Dec.{eqb}
 use Rattle.std.proofs.shelf.Lists.{drop-more, drop-all}
-use Rattle.std.proofs.shelf.Tests.{cond-true, cond-false, eq-eqb, ne-eqb, and-from, or-left}
-use Rattle.words.specs.Words.{run, gap, skipped, commenting, behind, onward, value, same, begins, Spelling, Part, letter, digit, inner, letters-next, digits-next, part, symbol-part, symbols, reserved-in, symbol-in}
+use Rattle.std.proofs.shelf.Tests.{cond-true, cond-false, eq-eqb, ne-eqb, or-left, and-right}
+use Rattle.words.specs.Words.{run, gap, skipped, commenting, behind, onward, value, same, begins, Spelling, Part, letter, digit, inner, letters-next, digits-next, part, symbol-part, spelled, pairs, singles, symbols, symbol-in}
+use lib.Chars.{codes}
 use Rattle.words.specs.Words.Next.{end}
+use Rattle.words.specs.Reader.{marked, sized}
+use Rattle.words.specs.declared.Mark.{Mark}
+use Rattle.words.specs.declared.Mark.the-variants.{Becomes, Dots, LessEqual, GreaterEqual}
+use Rattle.std.specs.Options.{mapped}
+use Rattle.std.specs.declared.option.Option.{Option}
 use Rattle.refusal.specs.declared.Place.{Place}
 use Rattle.std.proofs.shelf.Equals.{compares-decides}
 use Rattle.std.specs.Orderings.{Decides}
@@ -84,21 +90,72 @@ both-ways true b f g = sym (f refl)
 both-ways false true f g = g refl
 both-ways false false f g = refl
 
-pub begins-append : (xs rest : List ℕ) → begins xs (xs ++ rest) ≡ true
-begins-append [] rest = refl
-begins-append (x ∷ xs) rest = and-from (eqb x x) (begins xs (xs ++ rest)) (eq-eqb x x refl) (begins-append xs rest)
+-- Symbols: the first spelling of two bytes, or else of one.
+first-of : Option Spelling → Option Spelling → Option Spelling
+first-of (Some s) o = Some s
+first-of None o = o
 
-pub res-here : (s : Spelling) (l : List Spelling) (bs : List ℕ) → same (s .bytes) bs ≡ true → reserved-in (s ∷ l) bs ≡ Some (s .mark)
-res-here s l bs e = cond-true (same (s .bytes) bs) _ _ e
+symbol-++ : (l k : List Spelling) (bs : List ℕ) → symbol-in (l ++ k) bs ≡ first-of (symbol-in l bs) (symbol-in k bs)
+unfolding first-of
+symbol-++ [] k bs = refl
+symbol-++ (s ∷ l) k bs = go (begins (s .bytes) bs) (symbol-++ l k bs)
+  where
+    go : (b : Bool) → symbol-in (l ++ k) bs ≡ first-of (symbol-in l bs) (symbol-in k bs) → cond b (Some s) (symbol-in (l ++ k) bs) ≡ first-of (cond b (Some s) (symbol-in l bs)) (symbol-in k bs)
+    go true e = refl
+    go false e = e
 
-pub res-skip : (s : Spelling) (l : List Spelling) (bs : List ℕ) → same (s .bytes) bs ≡ false → reserved-in (s ∷ l) bs ≡ reserved-in l bs
-res-skip s l bs e = cond-false (same (s .bytes) bs) _ _ e
+Each-long : ℕ → List Spelling → Type 0
+Each-long n [] = Unit {0}
+Each-long n (s ∷ l) = (length (s .bytes) ≡ n) × Each-long n l
 
-pub sym-here : (s : Spelling) (l : List Spelling) (bs : List ℕ) → begins (s .bytes) bs ≡ true → symbol-in (s ∷ l) bs ≡ Some s
-sym-here s l bs e = cond-true (begins (s .bytes) bs) _ _ e
+sized-all : (n : ℕ) (l : List Spelling) → Each-long n l → (bs : List ℕ) → sized (symbol-in l bs) ≡ mapped (λ (m : Mark). (n, m)) (marked l bs)
+unfolding Each-long
+sized-all n [] h bs = refl
+sized-all n (s ∷ l) h bs = go (begins (s .bytes) bs) (sized-all n l (h .1) bs)
+  where
+    go : (b : Bool) → sized (symbol-in l bs) ≡ mapped (λ (m : Mark). (n, m)) (marked l bs) →
+        sized (cond b (Some s) (symbol-in l bs)) ≡ mapped (λ (m : Mark). (n, m)) (mapped (λ (x : Spelling). x .mark) (cond b (Some s) (symbol-in l bs)))
+    go true e = ap (λ (k : ℕ). Some (k, s .mark)) (h .0)
+    go false e = e
 
-pub sym-skip : (s : Spelling) (l : List Spelling) (bs : List ℕ) → begins (s .bytes) bs ≡ false → symbol-in (s ∷ l) bs ≡ symbol-in l bs
-sym-skip s l bs e = cond-false (begins (s .bytes) bs) _ _ e
+abbrev pub symbol-answer : Option Mark → Option Mark → Option (ℕ × Mark)
+symbol-answer (Some m) o = Some (2, m)
+symbol-answer None (Some m) = Some (1, m)
+symbol-answer None None = None
+
+pub symbol-of : (bs : List ℕ) (p s : Option Mark) → p ≡ marked pairs bs → s ≡ marked singles bs → symbol-answer p s ≡ sized (symbol-in symbols bs)
+unfolding first-of Each-long
+symbol-of bs p s e f =
+    (λ i. symbol-answer (e i) (f i)) ∙
+    go (symbol-in pairs bs) (symbol-in singles bs) (sized-all 2 pairs (refl, (refl, (refl, (refl, tt)))) bs)
+    (sized-all 1 singles (refl, (refl, (refl, (refl, (refl, (refl, (refl, (refl, (refl, (refl, tt)))))))))) bs) ∙
+    sym (ap sized (symbol-++ pairs singles bs))
+  where
+    go : (x y : Option Spelling) → sized x ≡ mapped (λ (m : Mark). (2, m)) (mapped (λ (z : Spelling). z .mark) x) → sized y ≡ mapped (λ (m : Mark). (1, m)) (mapped (λ (z : Spelling). z .mark) y) →
+        symbol-answer (mapped (λ (z : Spelling). z .mark) x) (mapped (λ (z : Spelling). z .mark) y) ≡ sized (first-of x y)
+    go (Some x) y h k = sym h
+    go None (Some y) h k = sym k
+    go None None h k = refl
+
+-- bytes by their first two
+pub two-bytes : (bs : List ℕ) → 1 < length bs → getD bs 0 0 ∷ getD bs 1 0 ∷ drop 2 bs ≡ bs
+two-bytes [] h = absurd (omega arith)
+two-bytes (b ∷ []) h = absurd (omega arith)
+two-bytes (b ∷ c ∷ bs) h = refl
+
+pub one-byte : (bs : List ℕ) → 0 < length bs → getD bs 0 0 ∷ drop 1 bs ≡ bs
+one-byte [] h = absurd (omega arith)
+one-byte (b ∷ bs) h = refl
+
+-- less than two bytes are no pair
+pub no-pair : (bs : List ℕ) → length bs ≤ 1 → None ≡ marked pairs bs
+no-pair [] h = refl
+no-pair (b ∷ []) h = go (eqb 58 b) (eqb 46 b) (eqb 60 b) (eqb 62 b)
+  where
+    go : (w x y z : Bool) → None ≡ mapped (λ (s : Spelling). s .mark) (cond (w && false) (Some (spelled (codes ":=") Becomes)) (cond (x && false) (Some (spelled (codes "..") Dots)) (cond (y && false) (Some (spelled (codes "<=") LessEqual)) (cond (z && false) (Some (spelled (codes ">=") GreaterEqual)) None))))
+    go w x y z =
+        sym (ap (mapped (λ (s : Spelling). s .mark)) (cond-false (w && false) _ _ (and-right w false refl) ∙ cond-false (x && false) _ _ (and-right x false refl) ∙ cond-false (y && false) _ _ (and-right y false refl) ∙ cond-false (z && false) _ None (and-right z false refl)))
+no-pair (b ∷ c ∷ bs) h = absurd (omega arith)
 
 pub same-decides : (xs ys : List ℕ) → Decides (same xs ys) (xs ≡ ys)
 same-decides = compares-decides same (record { empty = refl; shorter = λ y ys. refl; longer = λ x xs. refl; heads = λ x y xs ys. refl })

@@ -3,9 +3,10 @@ use Prim.Native.Nat.{ℕ, _+_, _<_, _≤_, _^_}
 use lib.ListN.{length}
 use Rattle.std.specs.declared.option.Option.{Option}
 use Rattle.std.specs.declared.option.Option.the-variants.{Some, None}
+use Rattle.std.specs.Options.{mapped}
 use mathlib.Core.Path.{_≡_}
 use mathlib.Core.List.{List}
-use Rattle.words.specs.Words.{Spelling, Next, Text, part, next, text-at}
+use Rattle.words.specs.Words.{Spelling, Next, Text, symbol-in, part, next, text-at}
 use Rattle.words.specs.Words.Text.{ends, fails, reads}
 use Rattle.words.specs.Words.Word.{name, number, mark}
 use Rattle.words.specs.Words.Next.{word, fault, end}
@@ -19,6 +20,10 @@ use Rattle.words.specs.declared.Mark.{Mark}
 -- lines and columns of so many more bytes fit
 abbrev pub Room : Place → ℕ → Type 0
 Room p n = (p .line + n ≤ 2 ^ 63) × (p .column + n ≤ 2 ^ 63)
+
+-- the mark of the first spelling that the bytes begin with
+abbrev pub marked : List Spelling → List ℕ → Option Mark
+marked l bs = mapped (λ (s : Spelling). s .mark) (symbol-in l bs)
 
 -- a symbol as its length and its mark
 abbrev pub sized : Option Spelling → Option (ℕ × Mark)

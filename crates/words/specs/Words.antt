@@ -1,7 +1,7 @@
 -- The words of a script: parts of its bytes, each with the line and column where it begins.
 use mathlib.Core.Path.{_≡_}
 use mathlib.Core.Bool.{Bool, true, false, not, cond, _&&_, _||_}
-use mathlib.Core.List.{List, [], _∷_}
+use mathlib.Core.List.{List, [], _∷_, _++_}
 use Prim.Native.Nat.{ℕ, zero, suc, _+_, _*_, _-_}
 use lib.Dec.{eqb, leb, ltb}
 use lib.ListN.{length, drop}
@@ -65,12 +65,17 @@ pub record Spelling : Type 0 where
 abbrev pub spelled : List ℕ → Mark → Spelling
 spelled bs m = record { bytes = bs; mark = m }
 
-abbrev pub symbols : List Spelling
-symbols =
-    spelled (codes ":=") Becomes ∷ spelled (codes "..") Dots ∷ spelled (codes "<=") LessEqual ∷ spelled (codes ">=") GreaterEqual ∷
+abbrev pub pairs : List Spelling
+pairs = spelled (codes ":=") Becomes ∷ spelled (codes "..") Dots ∷ spelled (codes "<=") LessEqual ∷ spelled (codes ">=") GreaterEqual ∷ []
+
+abbrev pub singles : List Spelling
+singles =
     spelled (codes "<") Less ∷ spelled (codes ">") Greater ∷ spelled (codes "=") Equals ∷ spelled (codes "+") Plus ∷ spelled (codes "-") Minus ∷
     spelled (codes "{") OpenBrace ∷ spelled (codes "}") CloseBrace ∷ spelled (codes "[") OpenBracket ∷ spelled (codes "]") CloseBracket ∷
     spelled (codes ";") Semicolon ∷ []
+
+abbrev pub symbols : List Spelling
+symbols = pairs ++ singles
 
 abbrev pub reserved : List Spelling
 reserved =

@@ -1,10 +1,11 @@
 // What stands at the front of some bytes: blanks and comments, names, numbers, symbols.
 ghost use mathlib.Core.Path.{_≡_};
 ghost use mathlib.Core.Bool.{false};
+ghost use mathlib.Core.List.{List, _∷_};
 ghost use Prim.Native.Nat.{ℕ, _<_, _≤_};
 ghost use lib.ListN.{length};
-ghost use Rattle.words.specs.Words.{letter, digit, inner, skipped, commenting, gap, run, behind, value, same, begins, reserved, reserved-in, symbols, symbol-in};
-ghost use Rattle.words.specs.Reader.{Room, sized};
+ghost use Rattle.words.specs.Words.{letter, digit, inner, skipped, commenting, gap, run, behind, value, reserved, reserved-in, pairs, singles, symbols, symbol-in};
+ghost use Rattle.words.specs.Reader.{Room, marked, sized};
 use crate::Mark;
 use refusal::Place;
 
@@ -104,38 +105,51 @@ pub(crate) fn number_of(digits: &[u8]) -> u64
     n
 }
 
-pub(crate) fn is_spelled(bytes: &[u8], spelling: &[u8]) -> bool
-    ensures { λ r. ⌜ r ≡ same (now (spelling .entry)) (now (bytes .entry)) ⌝ }
-{
-    spelling == bytes
-}
-
-pub(crate) fn begins_with(bytes: &[u8], front: &[u8]) -> bool
-    ensures { λ r. ⌜ r ≡ begins (now (front .entry)) (now (bytes .entry)) ⌝ }
-{
-    bytes.starts_with(front)
-}
-
 // The reserved word of this spelling.
 pub(crate) fn reserved_word(bytes: &[u8]) -> Option<Mark>
     ensures { λ r. ⌜ r ≡ reserved-in reserved (now (bytes .entry)) ⌝ }
 {
-    if is_spelled(bytes, b"var") {
-        Some(Mark::Var)
-    } else if is_spelled(bytes, b"table") {
-        Some(Mark::Table)
-    } else if is_spelled(bytes, b"if") {
-        Some(Mark::If)
-    } else if is_spelled(bytes, b"else") {
-        Some(Mark::Else)
-    } else if is_spelled(bytes, b"while") {
-        Some(Mark::While)
-    } else if is_spelled(bytes, b"hear") {
-        Some(Mark::Hear)
-    } else if is_spelled(bytes, b"sense") {
-        Some(Mark::Sense)
-    } else {
-        None
+    match bytes {
+        b"var" => Some(Mark::Var),
+        b"table" => Some(Mark::Table),
+        b"if" => Some(Mark::If),
+        b"else" => Some(Mark::Else),
+        b"while" => Some(Mark::While),
+        b"hear" => Some(Mark::Hear),
+        b"sense" => Some(Mark::Sense),
+        _ => None,
+    }
+}
+
+// The symbol of these two bytes.
+fn pair(a: u8, b: u8) -> Option<Mark>
+    ensures { λ r. ⌜ ((rest : List ℕ) → r ≡ marked pairs (a ∷ b ∷ rest)) ⌝ }
+{
+    match (a, b) {
+        (b':', b'=') => Some(Mark::Becomes),
+        (b'.', b'.') => Some(Mark::Dots),
+        (b'<', b'=') => Some(Mark::LessEqual),
+        (b'>', b'=') => Some(Mark::GreaterEqual),
+        _ => None,
+    }
+}
+
+// The symbol of this byte.
+fn single(b: u8) -> Option<Mark>
+    ensures { λ r. ⌜ ((rest : List ℕ) → r ≡ marked singles (b ∷ rest)) ⌝ }
+{
+    match b {
+        b'<' => Some(Mark::Less),
+        b'>' => Some(Mark::Greater),
+        b'=' => Some(Mark::Equals),
+        b'+' => Some(Mark::Plus),
+        b'-' => Some(Mark::Minus),
+        b'{' => Some(Mark::OpenBrace),
+        b'}' => Some(Mark::CloseBrace),
+        b'[' => Some(Mark::OpenBracket),
+        b']' => Some(Mark::CloseBracket),
+        b';' => Some(Mark::Semicolon),
+        _ => None,
     }
 }
 
@@ -143,35 +157,16 @@ pub(crate) fn reserved_word(bytes: &[u8]) -> Option<Mark>
 pub(crate) fn symbol_at(bytes: &[u8]) -> Option<(usize, Mark)>
     ensures { λ r. ⌜ r ≡ sized (symbol-in symbols (now (bytes .entry))) ⌝ }
 {
-    if begins_with(bytes, b":=") {
-        Some((2, Mark::Becomes))
-    } else if begins_with(bytes, b"..") {
-        Some((2, Mark::Dots))
-    } else if begins_with(bytes, b"<=") {
-        Some((2, Mark::LessEqual))
-    } else if begins_with(bytes, b">=") {
-        Some((2, Mark::GreaterEqual))
-    } else if begins_with(bytes, b"<") {
-        Some((1, Mark::Less))
-    } else if begins_with(bytes, b">") {
-        Some((1, Mark::Greater))
-    } else if begins_with(bytes, b"=") {
-        Some((1, Mark::Equals))
-    } else if begins_with(bytes, b"+") {
-        Some((1, Mark::Plus))
-    } else if begins_with(bytes, b"-") {
-        Some((1, Mark::Minus))
-    } else if begins_with(bytes, b"{") {
-        Some((1, Mark::OpenBrace))
-    } else if begins_with(bytes, b"}") {
-        Some((1, Mark::CloseBrace))
-    } else if begins_with(bytes, b"[") {
-        Some((1, Mark::OpenBracket))
-    } else if begins_with(bytes, b"]") {
-        Some((1, Mark::CloseBracket))
-    } else if begins_with(bytes, b";") {
-        Some((1, Mark::Semicolon))
-    } else {
-        None
+    if bytes.is_empty() {
+        return None;
+    }
+    if bytes.len() > 1 {
+        if let Some(mark) = pair(bytes[0], bytes[1]) {
+            return Some((2, mark));
+        }
+    }
+    match single(bytes[0]) {
+        Some(mark) => Some((1, mark)),
+        None => None,
     }
 }
