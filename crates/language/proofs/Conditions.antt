@@ -24,8 +24,9 @@ use Rattle.language.specs.Names.{rule, names-behind, is-variable, next-is-brac
 use Rattle.language.specs.Expected.{Expect, one, refusal, refuse}
 use Rattle.language.specs.Expected.Expect.{just, const, condition, operator, operand}
 use Rattle.language.specs.Expected.Terminal.{any-name}
-use Rattle.language.specs.Readings.{before, passed, first-is, first-names, Refuses, Anywhere, Alike, Over, Constant, Quiet, is-operator, is-operand, is-condition, Compares, Asks, Known, Knows-asks, Knows-compares}
-use Rattle.language.specs.Readings.Compares.{c-less, c-less-equal, c-greater, c-greater-equal}
+use Rattle.language.specs.Readings.{before, passed, first-is, first-names, Refuses, Anywhere, Alike, Over, Constant, Quiet, is-operator, is-operand, is-condition, Orders, Compares, Asks, Known, Knows-asks, Knows-compares}
+use Rattle.language.specs.Readings.Orders.{less-than, at-most-than, greater-than, at-least-than}
+use Rattle.language.specs.Readings.Compares.{comparing}
 use Rattle.language.specs.Readings.Asks.{behind-if, behind-while}
 use Rattle.language.proofs.Passing.{decided-word}
 use Rattle.language.proofs.Steps.{before-++, passed-++, alike-name, alike-then, last-operator, operand-const, condition-name}
@@ -33,21 +34,33 @@ use Rattle.language.proofs.Numbers.{const-derived, const-alike, const-goes}
 use Rattle.language.proofs.Sides.{variable-decides}
 
 -- comparisons
-pub over-less : (p : Place) (t t₂ : Text) → t ≡ reads (mark Less p) t₂ → Over (operator ∷ []) Anywhere (is-operator below) t t₂
-over-less p t t₂ e =
-    record { words = mark Less p ∷ []; joined = e; derived = ((λ r. less), (λ n q past. c-less)); alike = λ past c. record { vars = refl; tabs = refl; lev = refl }; goes = λ k past c. ap (refusal (operator ∷ k) past) e }
+pub over-order : {m : Mark} {o : Order} → Orders m o → (p : Place) (t t₂ : Text) → t ≡ reads (mark m p) t₂ → Over (operator ∷ []) Anywhere (is-operator o) t t₂
+over-order {m} {o} a p t t₂ e =
+    record {
+      words = mark m p ∷ [];
+      joined = e;
+      derived = (compared a, (λ n q past. comparing a));
+      alike = λ past c. alike a past;
+      goes = λ k past c. ap (refusal (operator ∷ k) past) e ∙ passes a k past;
+    }
+  where
+    compared : {m : Mark} {o : Order} → Orders m o → (r : List Word) → Compare (mark m p ∷ r) r o
+    compared less-than r = less
+    compared at-most-than r = less-equal
+    compared greater-than r = greater
+    compared at-least-than r = greater-equal
 
-pub over-less-equal : (p : Place) (t t₂ : Text) → t ≡ reads (mark LessEqual p) t₂ → Over (operator ∷ []) Anywhere (is-operator at-most) t t₂
-over-less-equal p t t₂ e =
-    record { words = mark LessEqual p ∷ []; joined = e; derived = ((λ r. less-equal), (λ n q past. c-less-equal)); alike = λ past c. record { vars = refl; tabs = refl; lev = refl }; goes = λ k past c. ap (refusal (operator ∷ k) past) e }
+    alike : {m : Mark} {o : Order} → Orders m o → (past : List Word) → Alike (mark m p ∷ past) past
+    alike less-than past = record { vars = refl; tabs = refl; lev = refl }
+    alike at-most-than past = record { vars = refl; tabs = refl; lev = refl }
+    alike greater-than past = record { vars = refl; tabs = refl; lev = refl }
+    alike at-least-than past = record { vars = refl; tabs = refl; lev = refl }
 
-pub over-greater : (p : Place) (t t₂ : Text) → t ≡ reads (mark Greater p) t₂ → Over (operator ∷ []) Anywhere (is-operator above) t t₂
-over-greater p t t₂ e =
-    record { words = mark Greater p ∷ []; joined = e; derived = ((λ r. greater), (λ n q past. c-greater)); alike = λ past c. record { vars = refl; tabs = refl; lev = refl }; goes = λ k past c. ap (refusal (operator ∷ k) past) e }
-
-pub over-greater-equal : (p : Place) (t t₂ : Text) → t ≡ reads (mark GreaterEqual p) t₂ → Over (operator ∷ []) Anywhere (is-operator at-least) t t₂
-over-greater-equal p t t₂ e =
-    record { words = mark GreaterEqual p ∷ []; joined = e; derived = ((λ r. greater-equal), (λ n q past. c-greater-equal)); alike = λ past c. record { vars = refl; tabs = refl; lev = refl }; goes = λ k past c. ap (refusal (operator ∷ k) past) e }
+    passes : {m : Mark} {o : Order} → Orders m o → (k : List Expect) (past : List Word) → refusal (operator ∷ k) past (reads (mark m p) t₂) ≡ refusal k (mark m p ∷ past) t₂
+    passes less-than k past = refl
+    passes at-most-than k past = refl
+    passes greater-than k past = refl
+    passes at-least-than k past = refl
 
 pub refuses-operator : (t : Text) (r : Refusal) → first-is Less t ≡ false → first-is LessEqual t ≡ false → first-is Greater t ≡ false →
     Refuses (one GreaterEqual ∷ []) Anywhere t r → Refuses (operator ∷ []) Anywhere t r
@@ -57,10 +70,10 @@ module _ (vs : List Variable) (ts : List a-table) where
   -- the second name of a condition: a variable, and not the first name
 
   second-rule : {n₀ : List ℕ} {past : List Word} → Compares n₀ past → (n : List ℕ) (p : Place) (b : Bool) → rule past (name n p) b ≡ cond (not (is-variable n past)) 8 (cond (same n n₀) 11 0)
-  second-rule c-less n p b = refl
-  second-rule c-less-equal n p b = refl
-  second-rule c-greater n p b = refl
-  second-rule c-greater-equal n p b = refl
+  second-rule (comparing less-than) n p b = refl
+  second-rule (comparing at-most-than) n p b = refl
+  second-rule (comparing greater-than) n p b = refl
+  second-rule (comparing at-least-than) n p b = refl
 
   pub against-decides : (n₀ n : List ℕ) (p : Place) (t t₁ : Text) (x y : Bool) → t ≡ reads (name n p) t₁ → among n (var-names vs) ≡ x → same n n₀ ≡ y →
       (k : List Expect) (past : List Word) → Knows-compares vs ts n₀ past →
@@ -79,16 +92,16 @@ module _ (vs : List Variable) (ts : List a-table) where
       go true false q = decided-word (operand ∷ k) past (name n p) t₁ k 0 false refl q
 
   compares-alike : {n₀ : List ℕ} {past : List Word} → Compares n₀ past → (n : List ℕ) (p : Place) → Alike (name n p ∷ past) past
-  compares-alike (c-less {p = a} {q = b} {past = past}) n p = alike-name n p _ refl refl
-  compares-alike (c-less-equal {p = a} {q = b} {past = past}) n p = alike-name n p _ refl refl
-  compares-alike (c-greater {p = a} {q = b} {past = past}) n p = alike-name n p _ refl refl
-  compares-alike (c-greater-equal {p = a} {q = b} {past = past}) n p = alike-name n p _ refl refl
+  compares-alike (comparing less-than) n p = alike-name n p _ refl refl
+  compares-alike (comparing at-most-than) n p = alike-name n p _ refl refl
+  compares-alike (comparing greater-than) n p = alike-name n p _ refl refl
+  compares-alike (comparing at-least-than) n p = alike-name n p _ refl refl
 
   compares-quiet : {n₀ : List ℕ} {past : List Word} → Compares n₀ past → Quiet past
-  compares-quiet c-less = record { minus = refl; dots = refl; bracket = refl }
-  compares-quiet c-less-equal = record { minus = refl; dots = refl; bracket = refl }
-  compares-quiet c-greater = record { minus = refl; dots = refl; bracket = refl }
-  compares-quiet c-greater-equal = record { minus = refl; dots = refl; bracket = refl }
+  compares-quiet (comparing less-than) = record { minus = refl; dots = refl; bracket = refl }
+  compares-quiet (comparing at-most-than) = record { minus = refl; dots = refl; bracket = refl }
+  compares-quiet (comparing greater-than) = record { minus = refl; dots = refl; bracket = refl }
+  compares-quiet (comparing at-least-than) = record { minus = refl; dots = refl; bracket = refl }
 
   pub over-against : (n₀ n : List ℕ) (p : Place) (t t₁ : Text) → t ≡ reads (name n p) t₁ → among n (var-names vs) ≡ true → same n n₀ ≡ false →
       Over (operand ∷ []) (Knows-compares vs ts n₀) (is-operand (against n)) t t₁
@@ -146,13 +159,13 @@ module _ (vs : List Variable) (ts : List a-table) where
       refuses-order r i k past y = left-decides true h k past y ∙ i (operand ∷ k) (name n p ∷ past) tt
 
       module _ {o : Order} {t₂ : Text} (by : Over (operator ∷ []) Anywhere (is-operator o) t₁ t₂) where
-        comparing : (past : List Word) → Knows-asks vs ts past → Knows-compares vs ts n (passed (by .words) (name n p ∷ past))
-        comparing past y =
+        behind-order : (past : List Word) → Knows-asks vs ts past → Knows-compares vs ts n (passed (by .words) (name n p ∷ past))
+        behind-order past y =
             let a = alike-then _ (name n p ∷ past) past (by .alike (name n p ∷ past) tt) (asks-alike (y .asks) n p) in
             record { compares = by .derived .1 n p past; known = record { vars = a .vars ∙ y .known .vars; tabs = a .tabs ∙ y .known .tabs } }
 
         pub refuses-right : (r : Refusal) → Refuses (operand ∷ []) (Knows-compares vs ts n) t₂ r → Refuses (condition ∷ []) (Knows-asks vs ts) t r
-        refuses-right r i k past y = left-decides true h k past y ∙ by .goes (operand ∷ k) (name n p ∷ past) tt ∙ i k _ (comparing past y)
+        refuses-right r i k past y = left-decides true h k past y ∙ by .goes (operand ∷ k) (name n p ∷ past) tt ∙ i k _ (behind-order past y)
 
         pub over-condition : (v : Operand) (t₃ : Text) → Over (operand ∷ []) (Knows-compares vs ts n) (is-operand v) t₂ t₃ →
             Over (condition ∷ []) (Knows-asks vs ts) (is-condition (compares n o v)) t t₃
@@ -163,8 +176,8 @@ module _ (vs : List Variable) (ts : List a-table) where
               words = name n p ∷ (xs ++ ys);
               joined = e ∙ ap (reads (name n p)) (by .joined ∙ ap (before xs) (w .joined) ∙ sym (before-++ xs ys t₃));
               derived = λ r. rw append-assoc (a-condition (by .derived .0 (ys ++ r)) (w .derived r));
-              alike = λ past y. rw passed-++ (alike-then _ _ past (w .alike _ (comparing past y)) (alike-then _ (name n p ∷ past) past (by .alike (name n p ∷ past) tt) (asks-alike (y .asks) n p)));
+              alike = λ past y. rw passed-++ (alike-then _ _ past (w .alike _ (behind-order past y)) (alike-then _ (name n p ∷ past) past (by .alike (name n p ∷ past) tt) (asks-alike (y .asks) n p)));
               goes = λ k past y.
-                  left-decides true h k past y ∙ by .goes (operand ∷ k) (name n p ∷ past) tt ∙ w .goes k _ (comparing past y) ∙
+                  left-decides true h k past y ∙ by .goes (operand ∷ k) (name n p ∷ past) tt ∙ w .goes k _ (behind-order past y) ∙
                   ap (λ (z : List Word). refusal k z t₃) (sym (passed-++ xs ys (name n p ∷ past)));
             }

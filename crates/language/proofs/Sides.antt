@@ -15,7 +15,7 @@ use Rattle.words.specs.Words.Text.{ends, fails, reads}
 use Rattle.words.specs.declared.Mark.{Mark}
 use Rattle.words.specs.declared.Mark.the-variants.{Becomes, Plus, Minus, OpenBracket, CloseBracket, Hear, Sense, Var, Table}
 use Rattle.language.specs.declared.Range.{Range}
-use Rattle.language.specs.declared.Source.the-variants.{Sensed, Heard}
+use Rattle.language.specs.declared.Source.{Source}
 use Rattle.language.specs.Grammar.{Side, Span, Right}
 use Rattle.language.specs.Grammar.Side.{constant, shifted, negated, any, reading}
 use Rattle.language.specs.Grammar.Const.{plain as a-plain, signed as a-signed}
@@ -26,7 +26,9 @@ use Rattle.language.specs.Expected as expected
 use Rattle.language.specs.Expected.{Expect, one, step, refusal, refuse}
 use Rattle.language.specs.Expected.Expect.{just, span, right, behind-minus, behind-name}
 use Rattle.language.specs.Expected.Terminal.{any-name, any-number}
-use Rattle.language.specs.Readings.{before, passed, first-is, first-names, said, Refuses, Anywhere, Alike, Over, Quiet, is-span, is-right, is-negative, is-index, Behind, Negates, Known, Knows-behind, Knows-negates}
+use Rattle.language.specs.Readings.{before, passed, first-is, first-names, said, Refuses, Anywhere, Alike, Over, Quiet, is-span, is-right, is-negative, is-index, Announces, Shifts, Behind, Negates, Known, Knows-behind, Knows-negates}
+use Rattle.language.specs.Readings.Announces.{heard, sensed}
+use Rattle.language.specs.Readings.Shifts.{plus, minus}
 use Rattle.language.specs.Readings.Behind.{behind}
 use Rattle.language.specs.Readings.Negates.{negates}
 use Rattle.language.proofs.Passing.{pass-word, decided-word}
@@ -135,39 +137,41 @@ module _ (vs : List Variable) (ts : List a-table) where
   refuses-side-negative q t t₁ r f h k past c = ap (refusal (right ∷ k) past) f ∙ h k (mark Minus q ∷ past) (negating past q c)
 
   -- hear and sense
-  quiet-hear : (past : List Word) (q : Place) → Quiet (mark Hear q ∷ past)
-  quiet-hear past q = record { minus = refl; dots = refl; bracket = refl }
+  module _ {m : Mark} {from : Source} (a : Announces m from) {q : Place} {t t₁ : Text} (e : t ≡ reads (mark m q) t₁) where
+    announced : (past : List Word) → Quiet (mark m q ∷ past)
+    announced past = go a
+      where
+        go : {m : Mark} {from : Source} → Announces m from → Quiet (mark m q ∷ past)
+        go heard = record { minus = refl; dots = refl; bracket = refl }
+        go sensed = record { minus = refl; dots = refl; bracket = refl }
 
-  quiet-sense : (past : List Word) (q : Place) → Quiet (mark Sense q ∷ past)
-  quiet-sense past q = record { minus = refl; dots = refl; bracket = refl }
+    announcing : (k : List Expect) (past : List Word) → refusal (right ∷ k) past t ≡ refusal (span ∷ k) (mark m q ∷ past) t₁
+    announcing k past = ap (refusal (right ∷ k) past) e ∙ go a
+      where
+        go : {m : Mark} {from : Source} → Announces m from → refusal (right ∷ k) past (reads (mark m q) t₁) ≡ refusal (span ∷ k) (mark m q ∷ past) t₁
+        go heard = refl
+        go sensed = refl
 
-  pub side-hear : (q : Place) (g : Range) (t t₁ t₂ : Text) → t ≡ reads (mark Hear q) t₁ → Over (span ∷ []) Quiet (is-span g) t₁ t₂ →
-      Over (right ∷ []) (Knows-behind vs ts Becomes) (is-right (any Heard g)) t t₂
-  side-hear q g t t₁ t₂ f o =
-      record {
-        words = mark Hear q ∷ o .words;
-        joined = f ∙ ap (reads (mark Hear q)) (o .joined);
-        derived = λ r. a-hear (o .derived r);
-        alike = λ past c. alike-then _ (mark Hear q ∷ past) past (o .alike (mark Hear q ∷ past) (quiet-hear past q)) (record { vars = refl; tabs = refl; lev = refl });
-        goes = λ k past c. ap (refusal (right ∷ k) past) f ∙ o .goes k (mark Hear q ∷ past) (quiet-hear past q);
-      }
+    pub side-any : (g : Range) (t₂ : Text) → Over (span ∷ []) Quiet (is-span g) t₁ t₂ → Over (right ∷ []) (Knows-behind vs ts Becomes) (is-right (any from g)) t t₂
+    side-any g t₂ o =
+        record {
+          words = mark m q ∷ o .words;
+          joined = e ∙ ap (reads (mark m q)) (o .joined);
+          derived = λ r. derived a (o .derived r);
+          alike = λ past c. alike-then _ (mark m q ∷ past) past (o .alike (mark m q ∷ past) (announced past)) (alike a past);
+          goes = λ k past c. announcing k past ∙ o .goes k (mark m q ∷ past) (announced past);
+        }
+      where
+        derived : {m : Mark} {from : Source} → Announces m from → {ws r : List Word} → Span ws r g → Right (mark m q ∷ ws) r (any from g)
+        derived heard s = a-hear s
+        derived sensed s = a-sense s
 
-  pub side-sense : (q : Place) (g : Range) (t t₁ t₂ : Text) → t ≡ reads (mark Sense q) t₁ → Over (span ∷ []) Quiet (is-span g) t₁ t₂ →
-      Over (right ∷ []) (Knows-behind vs ts Becomes) (is-right (any Sensed g)) t t₂
-  side-sense q g t t₁ t₂ f o =
-      record {
-        words = mark Sense q ∷ o .words;
-        joined = f ∙ ap (reads (mark Sense q)) (o .joined);
-        derived = λ r. a-sense (o .derived r);
-        alike = λ past c. alike-then _ (mark Sense q ∷ past) past (o .alike (mark Sense q ∷ past) (quiet-sense past q)) (record { vars = refl; tabs = refl; lev = refl });
-        goes = λ k past c. ap (refusal (right ∷ k) past) f ∙ o .goes k (mark Sense q ∷ past) (quiet-sense past q);
-      }
+        alike : {m : Mark} {from : Source} → Announces m from → (past : List Word) → Alike (mark m q ∷ past) past
+        alike heard past = record { vars = refl; tabs = refl; lev = refl }
+        alike sensed past = record { vars = refl; tabs = refl; lev = refl }
 
-  pub refuses-hear : (q : Place) (t t₁ : Text) (r : Refusal) → t ≡ reads (mark Hear q) t₁ → Refuses (span ∷ []) Quiet t₁ r → Refuses (right ∷ []) (Knows-behind vs ts Becomes) t r
-  refuses-hear q t t₁ r f h k past c = ap (refusal (right ∷ k) past) f ∙ h k (mark Hear q ∷ past) (quiet-hear past q)
-
-  pub refuses-sense : (q : Place) (t t₁ : Text) (r : Refusal) → t ≡ reads (mark Sense q) t₁ → Refuses (span ∷ []) Quiet t₁ r → Refuses (right ∷ []) (Knows-behind vs ts Becomes) t r
-  refuses-sense q t t₁ r f h k past c = ap (refusal (right ∷ k) past) f ∙ h k (mark Sense q ∷ past) (quiet-sense past q)
+    pub refuses-any : (r : Refusal) → Refuses (span ∷ []) Quiet t₁ r → Refuses (right ∷ []) (Knows-behind vs ts Becomes) t r
+    refuses-any r h k past c = announcing k past ∙ h k (mark m q ∷ past) (announced past)
 
   -- a right side that begins with a name
   pub refuses-named : (t : Text) (r : Refusal) → first-names t ≡ true → Refuses (just any-name ∷ []) Anywhere t r → Refuses (right ∷ []) (Knows-behind vs ts Becomes) t r
@@ -218,35 +222,37 @@ module _ (vs : List Variable) (ts : List a-table) where
             goes = λ k past y. named-decides true b h k past y ∙ no-shift k (name n p ∷ past) t₁ a c b;
           }
 
-      pub side-sum : (z : ℤ) (c : ℕ) (q s : Place) (t₂ t₃ : Text) → z ≡ pos c → t₁ ≡ reads (mark Plus q) t₂ → t₂ ≡ reads (number c s) t₃ →
+      pub side-shifted : {m : Mark} {c : ℕ} {z : ℤ} → Shifts m c z → (q s : Place) (t₂ t₃ : Text) → t₁ ≡ reads (mark m q) t₂ → t₂ ≡ reads (number c s) t₃ →
           Over (right ∷ []) (Knows-behind vs ts Becomes) (is-right (shifted n z)) t t₃
-      side-sum z c q s t₂ t₃ f g i =
+      side-shifted {m} {c} a q s t₂ t₃ g i =
           record {
-            words = name n p ∷ mark Plus q ∷ number c s ∷ [];
-            joined = e ∙ ap (reads (name n p)) (g ∙ ap (reads (mark Plus q)) i);
-            derived = λ r. subst (λ (x : ℤ). Right (name n p ∷ mark Plus q ∷ number c s ∷ r) r (shifted n x)) (sym f) a-sum;
-            alike = λ past y. alike-then _ (name n p ∷ past) past (record { vars = refl; tabs = refl; lev = refl }) (named-alike past y);
-            goes = λ k past y. named-decides true b h k past y ∙ ap (refusal (behind-name ∷ k) (name n p ∷ past)) (g ∙ ap (reads (mark Plus q)) i);
+            words = name n p ∷ mark m q ∷ number c s ∷ [];
+            joined = e ∙ ap (reads (name n p)) (g ∙ ap (reads (mark m q)) i);
+            derived = λ r. derived a r;
+            alike = λ past y. alike-then _ (name n p ∷ past) past (alike a past) (named-alike past y);
+            goes = λ k past y. named-decides true b h k past y ∙ ap (refusal (behind-name ∷ k) (name n p ∷ past)) (g ∙ ap (reads (mark m q)) i) ∙ passes a k past;
           }
+        where
+          derived : {m : Mark} {c : ℕ} {z : ℤ} → Shifts m c z → (r : List Word) → Right (name n p ∷ mark m q ∷ number c s ∷ r) r (shifted n z)
+          derived plus r = a-sum
+          derived minus r = a-difference
 
-      pub side-difference : (z : ℤ) (c : ℕ) (q s : Place) (t₂ t₃ : Text) → z ≡ negℤ (pos c) → t₁ ≡ reads (mark Minus q) t₂ → t₂ ≡ reads (number c s) t₃ →
-          Over (right ∷ []) (Knows-behind vs ts Becomes) (is-right (shifted n z)) t t₃
-      side-difference z c q s t₂ t₃ f g i =
-          record {
-            words = name n p ∷ mark Minus q ∷ number c s ∷ [];
-            joined = e ∙ ap (reads (name n p)) (g ∙ ap (reads (mark Minus q)) i);
-            derived = λ r. subst (λ (x : ℤ). Right (name n p ∷ mark Minus q ∷ number c s ∷ r) r (shifted n x)) (sym f) a-difference;
-            alike = λ past y. alike-then _ (name n p ∷ past) past (record { vars = refl; tabs = refl; lev = refl }) (named-alike past y);
-            goes = λ k past y. named-decides true b h k past y ∙ ap (refusal (behind-name ∷ k) (name n p ∷ past)) (g ∙ ap (reads (mark Minus q)) i);
-          }
+          alike : {m : Mark} {c : ℕ} {z : ℤ} → Shifts m c z → (past : List Word) → Alike (number c s ∷ mark m q ∷ name n p ∷ past) (name n p ∷ past)
+          alike plus past = record { vars = refl; tabs = refl; lev = refl }
+          alike minus past = record { vars = refl; tabs = refl; lev = refl }
 
-      pub refuses-sum : (q : Place) (t₂ : Text) (r : Refusal) → t₁ ≡ reads (mark Plus q) t₂ → Refuses (just any-number ∷ []) Anywhere t₂ r → Refuses (right ∷ []) (Knows-behind vs ts Becomes) t r
-      refuses-sum q t₂ r g i k past y =
-          named-decides true b h k past y ∙ ap (refusal (behind-name ∷ k) (name n p ∷ past)) g ∙ i k (mark Plus q ∷ name n p ∷ past) tt
+          passes : {m : Mark} {c : ℕ} {z : ℤ} → Shifts m c z → (k : List Expect) (past : List Word) →
+              refusal (behind-name ∷ k) (name n p ∷ past) (reads (mark m q) (reads (number c s) t₃)) ≡ refusal k (number c s ∷ mark m q ∷ name n p ∷ past) t₃
+          passes plus k past = refl
+          passes minus k past = refl
 
-      pub refuses-difference : (q : Place) (t₂ : Text) (r : Refusal) → t₁ ≡ reads (mark Minus q) t₂ → Refuses (just any-number ∷ []) Anywhere t₂ r → Refuses (right ∷ []) (Knows-behind vs ts Becomes) t r
-      refuses-difference q t₂ r g i k past y =
-          named-decides true b h k past y ∙ ap (refusal (behind-name ∷ k) (name n p ∷ past)) g ∙ i k (mark Minus q ∷ name n p ∷ past) tt
+      pub refuses-shifted : {m : Mark} {c : ℕ} {z : ℤ} → Shifts m c z → (q : Place) (t₂ : Text) (r : Refusal) → t₁ ≡ reads (mark m q) t₂ → Refuses (just any-number ∷ []) Anywhere t₂ r →
+          Refuses (right ∷ []) (Knows-behind vs ts Becomes) t r
+      refuses-shifted a q t₂ r g i k past y = named-decides true b h k past y ∙ ap (refusal (behind-name ∷ k) (name n p ∷ past)) g ∙ go a k past
+        where
+          go : {m : Mark} {c : ℕ} {z : ℤ} → Shifts m c z → (k : List Expect) (past : List Word) → refusal (behind-name ∷ k) (name n p ∷ past) (reads (mark m q) t₂) ≡ said r
+          go plus k past = i k (mark Plus q ∷ name n p ∷ past) tt
+          go minus k past = i k (mark Minus q ∷ name n p ∷ past) tt
 
     module _ (b : first-is OpenBracket t₁ ≡ true) (h : among n (table-names ts) ≡ true) {q : Place} {t₂ : Text} (g : t₁ ≡ reads (mark OpenBracket q) t₂) where
       indexed : (past : List Word) → Knows-behind vs ts Becomes past → Knows-behind vs ts OpenBracket (mark OpenBracket q ∷ name n p ∷ past)

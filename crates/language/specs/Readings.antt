@@ -18,9 +18,12 @@ use Rattle.words.specs.Words.Word.{name, number, mark}
 use Rattle.words.specs.Words.Text.{ends, fails, reads}
 use Rattle.words.specs.Marks.{is}
 use Rattle.words.specs.declared.Mark.{Mark}
-use Rattle.words.specs.declared.Mark.the-variants.{Becomes, Dots, Less, LessEqual, Greater, GreaterEqual, Equals, Minus, OpenBrace, CloseBrace, OpenBracket, CloseBracket, Semicolon, Var, Table, If, While}
+use Rattle.words.specs.declared.Mark.the-variants.{Becomes, Dots, Less, LessEqual, Greater, GreaterEqual, Equals, Plus, Minus, OpenBrace, CloseBrace, OpenBracket, CloseBracket, Semicolon, Var, Table, If, While, Hear, Sense}
 use Rattle.language.specs.Grammar.{Declaration, Side, Order, Operand, Condition, Statements, Span, Right, Compare, Compared, Heads, Cond, Body}
 use Rattle.language.specs.Grammar.Side.{reading}
+use Rattle.language.specs.Grammar.Order.{below, at-most, above, at-least}
+use Rattle.language.specs.declared.Source.{Source}
+use Rattle.language.specs.declared.Source.the-variants.{Sensed, Heard}
 use Rattle.language.specs.declared.Range.{Range}
 use Rattle.language.specs.Grammar.Statements.{choose}
 use Rattle.language.specs.Graphs.{Variable, Table as a-table, Drawing, variables, tables, var-names, table-names, draw, fresh, back, stand}
@@ -142,12 +145,26 @@ pub data Behind (m : Mark) : List Word → Type 0 where
 pub data Negates : List Word → Type 0 where
   negates : {p q : Place} {past : List Word} → Negates (mark Minus q ∷ mark Becomes p ∷ past)
 
+-- the marks of the four comparisons
+pub data Orders : Mark → Order → Type 0 where
+  less-than : Orders Less below
+  at-most-than : Orders LessEqual at-most
+  greater-than : Orders Greater above
+  at-least-than : Orders GreaterEqual at-least
+
 -- the words just before are this name and a comparison
 pub data Compares (n : List ℕ) : List Word → Type 0 where
-  c-less : {p q : Place} {past : List Word} → Compares n (mark Less p ∷ name n q ∷ past)
-  c-less-equal : {p q : Place} {past : List Word} → Compares n (mark LessEqual p ∷ name n q ∷ past)
-  c-greater : {p q : Place} {past : List Word} → Compares n (mark Greater p ∷ name n q ∷ past)
-  c-greater-equal : {p q : Place} {past : List Word} → Compares n (mark GreaterEqual p ∷ name n q ∷ past)
+  comparing : {m : Mark} {o : Order} {p q : Place} {past : List Word} → Orders m o → Compares n (mark m p ∷ name n q ∷ past)
+
+-- the marks that announce a range of values, and where these come from
+pub data Announces : Mark → Source → Type 0 where
+  heard : Announces Hear Heard
+  sensed : Announces Sense Sensed
+
+-- the marks behind a name on a right side that shift it by a number
+pub data Shifts : Mark → ℕ → ℤ → Type 0 where
+  plus : {c : ℕ} → Shifts Plus c (pos c)
+  minus : {c : ℕ} → Shifts Minus c (negℤ (pos c))
 
 -- a comparison, behind which a condition goes on
 abbrev pub is-operator : Order → List Word → Type 0

@@ -1,13 +1,14 @@
-use mathlib.Core.Path.{_≡_, refl, sym, ap, _∙_}
+use mathlib.Core.Path.{_≡_, refl, sym, ap, subst, _∙_}
 use mathlib.Core.Bool.{true, false}
 use mathlib.Core.List.{[], _∷_}
 use Rattle.refusal.specs.declared.Reason.the-variants.{Undeclared}
 use Rattle.words.specs.declared.Mark.the-variants.{Becomes, OpenBracket, Plus, Minus}
 use Rattle.language.specs.Grammar.Side.{reading}
 use Rattle.language.specs.Expected.Expect.{right}
-use Rattle.language.specs.Readings.{Knows-behind}
+use Rattle.language.specs.Readings.{Knows-behind, Shifts}
+use Rattle.language.specs.Readings.Shifts.{plus, minus}
 use Rattle.language.proofs.Turning.{turns, turns-at}
-use Rattle.language.proofs.Sides.{refuses-named, named-decides, table-decides, side-copy, side-sum, side-difference, refuses-sum, refuses-difference, side-reading, refuses-reading}
+use Rattle.language.proofs.Sides.{refuses-named, named-decides, table-decides, side-copy, side-shifted, refuses-shifted, side-reading, refuses-reading}
 use Rattle.sentences.specs.Models.{left, vars-of, tabs-of}
 use Rattle.sentences.specs.declared.side.Side.the-variants.{Reading}
 use lib.IntN.{pos, negℤ}
@@ -69,7 +70,7 @@ returns-in-Break-n c =
     let h = c .in-Continue-i .ensures tt in
     let m = taken-mark Plus _ (left (c .name .last .self)) (left (c .take-then-at-2 .last .self)) (c .take-then-at-2 .ensures) (sym (c .if-at-2 .ensures tt)) in
     handed-on _ _ (c .from-residual-in-Break-n .result) _ (c .from-residual-in-Break-n .ensures .1)
-    (λ e. turns (refuses-sum (vars-of n) (tabs-of n) (c .in-Continue-name .ensures tt) (sym (c .if-at .ensures tt)) (h .0) (m .0) _ _ (m .1)) (c .in-Break-n .ensures tt))
+    (λ e. turns (refuses-shifted (vars-of n) (tabs-of n) (c .in-Continue-name .ensures tt) (sym (c .if-at .ensures tt)) (h .0) (plus {c = 0}) (m .0) _ _ (m .1)) (c .in-Break-n .ensures tt))
 
 pub returns-then-at-2 : need.returns-then-at-2
 returns-then-at-2 c =
@@ -78,7 +79,7 @@ returns-then-at-2 c =
     let m = taken-mark Plus _ (left (c .name .last .self)) (left (c .take-then-at-2 .last .self)) (c .take-then-at-2 .ensures) (sym (c .if-at-2 .ensures tt)) in
     let z : toZ w64 (ofZ w64 (c .from .result)) ≡ pos (c .in-Continue-n .n) = toZ-ofZ w64 (c .from .result) (search needs) ∙ c .from .ensures in
     shifted-answer (vars-of n) (tabs-of n) (c .in-Continue-name .name .now) (c .in-Continue-i .i) _ (left (c .args .s .now)) (left (c .number .last .self)) (h .1)
-    (side-sum (vars-of n) (tabs-of n) (c .in-Continue-name .ensures tt) (sym (c .if-at .ensures tt)) (h .0) _ (c .in-Continue-n .n) (m .0) _ _ _ z (m .1) (c .in-Continue-n .ensures tt))
+    (side-shifted (vars-of n) (tabs-of n) (c .in-Continue-name .ensures tt) (sym (c .if-at .ensures tt)) (h .0) (subst (Shifts Plus (c .in-Continue-n .n)) (sym z) plus) (m .0) _ _ _ (m .1) (c .in-Continue-n .ensures tt))
 
 pub returns-in-Break-n-2 : need.returns-in-Break-n-2
 returns-in-Break-n-2 c =
@@ -86,7 +87,7 @@ returns-in-Break-n-2 c =
     let h = c .in-Continue-i .ensures tt in
     let m = taken-mark Minus _ (left (c .name .last .self)) (left (c .take-then-at-3 .last .self)) (c .take-then-at-3 .ensures) (sym (c .if-at-3 .ensures tt)) in
     handed-on _ _ (c .from-residual-in-Break-n-2 .result) _ (c .from-residual-in-Break-n-2 .ensures .1)
-    (λ e. turns (refuses-difference (vars-of n) (tabs-of n) (c .in-Continue-name .ensures tt) (sym (c .if-at .ensures tt)) (h .0) (m .0) _ _ (m .1)) (c .in-Break-n-2 .ensures tt))
+    (λ e. turns (refuses-shifted (vars-of n) (tabs-of n) (c .in-Continue-name .ensures tt) (sym (c .if-at .ensures tt)) (h .0) (minus {c = 0}) (m .0) _ _ (m .1)) (c .in-Break-n-2 .ensures tt))
 
 pub returns-then-at-3 : need.returns-then-at-3
 returns-then-at-3 c =
@@ -95,7 +96,7 @@ returns-then-at-3 c =
     let m = taken-mark Minus _ (left (c .name .last .self)) (left (c .take-then-at-3 .last .self)) (c .take-then-at-3 .ensures) (sym (c .if-at-3 .ensures tt)) in
     let z : toZ w64 (ofZ w64 (c .negative .result)) ≡ negℤ (pos (c .in-Continue-n-2 .n)) = toZ-ofZ w64 (c .negative .result) (search needs) ∙ c .negative .ensures in
     shifted-answer (vars-of n) (tabs-of n) (c .in-Continue-name .name .now) (c .in-Continue-i .i) _ (left (c .args .s .now)) (left (c .number-then-at-3 .last .self)) (h .1)
-    (side-difference (vars-of n) (tabs-of n) (c .in-Continue-name .ensures tt) (sym (c .if-at .ensures tt)) (h .0) _ (c .in-Continue-n-2 .n) (m .0) _ _ _ z (m .1) (c .in-Continue-n-2 .ensures tt))
+    (side-shifted (vars-of n) (tabs-of n) (c .in-Continue-name .ensures tt) (sym (c .if-at .ensures tt)) (h .0) (subst (Shifts Minus (c .in-Continue-n-2 .n)) (sym z) minus) (m .0) _ _ _ (m .1) (c .in-Continue-n-2 .ensures tt))
 
 pub returns : need.returns
 returns c =

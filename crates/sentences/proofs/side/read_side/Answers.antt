@@ -9,8 +9,9 @@ use mir.Syntax.{w64}
 use Rattle.words.specs.declared.Mark.the-variants.{Hear, Sense, Minus}
 use Rattle.language.specs.Grammar.Side.{constant, any}
 use Rattle.language.specs.declared.Source.the-variants.{Heard, Sensed}
+use Rattle.language.specs.Readings.Announces.{heard, sensed}
 use Rattle.language.proofs.Turning.{turns}
-use Rattle.language.proofs.Sides.{side-number, refuses-number, side-negative, refuses-side-negative, side-hear, side-sense, refuses-hear, refuses-sense}
+use Rattle.language.proofs.Sides.{side-number, refuses-number, side-negative, refuses-side-negative, side-any, refuses-any}
 use Rattle.sentences.specs.Models.{left, vars-of, tabs-of}
 use Rattle.sentences.proofs.Exits.{handed-on}
 use Rattle.sentences.proofs.Sentences.{taken-mark}
@@ -24,26 +25,26 @@ returns-in-Break-read-range c =
     let n = c .args .names .now in
     let m = taken-mark Hear _ (left (c .args .s .now)) (left (c .take .last .self)) (c .take .ensures) (sym (c .if-at .ensures tt)) in
     handed-on _ _ (c .from-residual .result) _ (c .from-residual .ensures .1)
-    (turns (refuses-hear (vars-of n) (tabs-of n) (m .0) _ _ _ (m .1)) (c .in-Break-read-range .ensures tt))
+    (turns (refuses-any (vars-of n) (tabs-of n) heard (m .1) _) (c .in-Break-read-range .ensures tt))
 
 pub returns-then-at : need.returns-then-at
 returns-then-at c =
     let n = c .args .names .now in
     let m = taken-mark Hear _ (left (c .args .s .now)) (left (c .take .last .self)) (c .take .ensures) (sym (c .if-at .ensures tt)) in
-    (any Heard (c .in-Continue-read-range .field-0), refl, side-hear (vars-of n) (tabs-of n) (m .0) _ _ _ _ (m .1) (c .in-Continue-read-range .ensures tt))
+    (any Heard (c .in-Continue-read-range .field-0), refl, side-any (vars-of n) (tabs-of n) heard (m .1) _ _ (c .in-Continue-read-range .ensures tt))
 
 pub returns-in-Break-read-range-2 : need.returns-in-Break-read-range-2
 returns-in-Break-read-range-2 c =
     let n = c .args .names .now in
     let m = taken-mark Sense _ (left (c .args .s .now)) (left (c .take-then-at-2 .last .self)) (c .take-then-at-2 .ensures) (sym (c .if-at-2 .ensures tt)) in
     handed-on _ _ (c .from-residual-in-Break-read-range-2 .result) _ (c .from-residual-in-Break-read-range-2 .ensures .1)
-    (turns (refuses-sense (vars-of n) (tabs-of n) (m .0) _ _ _ (m .1)) (c .in-Break-read-range-2 .ensures tt))
+    (turns (refuses-any (vars-of n) (tabs-of n) sensed (m .1) _) (c .in-Break-read-range-2 .ensures tt))
 
 pub returns-then-at-2 : need.returns-then-at-2
 returns-then-at-2 c =
     let n = c .args .names .now in
     let m = taken-mark Sense _ (left (c .args .s .now)) (left (c .take-then-at-2 .last .self)) (c .take-then-at-2 .ensures) (sym (c .if-at-2 .ensures tt)) in
-    (any Sensed (c .in-Continue-read-range-2 .field-0), refl, side-sense (vars-of n) (tabs-of n) (m .0) _ _ _ _ (m .1) (c .in-Continue-read-range-2 .ensures tt))
+    (any Sensed (c .in-Continue-read-range-2 .field-0), refl, side-any (vars-of n) (tabs-of n) sensed (m .1) _ _ (c .in-Continue-read-range-2 .ensures tt))
 
 pub returns-then-at-3 : need.returns-then-at-3
 returns-then-at-3 c =
