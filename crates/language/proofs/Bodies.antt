@@ -1,36 +1,34 @@
 -- Statements and blocks, passed or refused.
 use mathlib.Core.Path.{_≡_, refl, sym, ap, subst, _∙_}
-use mathlib.Core.Bool.{Bool, true, false, cond, not, _&&_}
+use mathlib.Core.Bool.{Bool, true, false, cond, not}
 use mathlib.Core.List.{List, [], _∷_, _++_, append-assoc}
-use Prim.Native.Nat.{ℕ, suc, _+_, _≤_, _<_}
+use Prim.Native.Nat.{ℕ, suc, _+_, _<_}
 use native.Mathlib.Omega.{arith}
 use lib.Dec.{leb}
 use lib.ListN.{length, length-append}
-use Rattle.std.proofs.shelf.Tests.{false≢true, lt-leb, le-leb}
+use Rattle.std.proofs.shelf.Tests.{lt-leb, le-leb}
 use Rattle.refusal.specs.declared.Place.{Place}
 use Rattle.refusal.specs.declared.Refusal.{Refusal}
 use Rattle.words.specs.Words.{Word, Text, among}
-use Rattle.words.specs.Words.Word.{name, number, mark}
-use Rattle.words.specs.Words.Text.{ends, fails, reads}
-use Rattle.words.specs.declared.Mark.{Mark}
+use Rattle.words.specs.Words.Word.{name, mark}
+use Rattle.words.specs.Words.Text.{reads}
 use Rattle.words.specs.declared.Mark.the-variants.{Becomes, OpenBrace, CloseBrace, Semicolon, If, Else, While}
-use Rattle.language.specs.declared.Action.{Action}
 use Rattle.language.specs.declared.Action.the-variants.{Skip}
-use Rattle.language.specs.Grammar.{Side, Condition, Statements, Cond, Body}
+use Rattle.language.specs.Grammar.{Side, Condition, Body}
 use Rattle.language.specs.Grammar.Statements.{done, assign, choose, repeat}
 use Rattle.language.specs.Grammar.Body.{no-stmt, assignment, if-stmt, if-else-stmt, while-stmt}
 use Rattle.language.specs.Graphs.{Variable, Table as a-table, Drawing, var-names, var-number, fresh, back, stand, holds, fails as negation, draw-assign, draw}
-use Rattle.language.specs.Names.{rule, is-variable, level, next-is-bracket}
+use Rattle.language.specs.Names.{level, next-is-bracket}
 use Rattle.language.specs.Rules.{words}
 use Rattle.language.specs.Expected.{Expect, one, refusal, refuse}
-use Rattle.language.specs.Expected.Expect.{just, body, condition, block, else-part, right}
-use Rattle.language.specs.Expected.Terminal.{any-name}
-use Rattle.language.specs.Readings.{before, passed, first-is, first-names, begins-statement, Refuses, Anywhere, Alike, Over, is-right, is-condition, Boundary, Known, Knows-behind, Knows-asks, Starts, Inner, Stated, Statement, Blocked, Elsed, assigning, choosing, repeating, joined-at}
+use Rattle.language.specs.Expected.Expect.{body, condition, block, else-part, right}
+use Rattle.language.specs.Readings.{before, passed, first-is, first-names, begins-statement, Refuses, Anywhere, Alike, Over, is-right, is-condition, Known, Knows-behind, Knows-asks, Starts, Inner, Stated, Statement, Blocked, Elsed, assigning, choosing, repeating, joined-at}
 use Rattle.language.specs.Readings.Behind.{behind}
 use Rattle.language.specs.Readings.Asks.{behind-if, behind-while}
-use Rattle.language.specs.Readings.Boundary.{at-start, behind-semicolon, behind-open, behind-close}
+use Rattle.language.specs.Readings.Boundary.{behind-semicolon, behind-open, behind-close}
 use Rattle.language.proofs.Passing.{decided-word}
-use Rattle.language.proofs.Steps.{before-++, passed-++, words-before, first-mark, first-name, alike-name, alike-then, no-statement, no-else, block-brace}
+use Rattle.language.proofs.Steps.{before-++, passed-++, words-before, first-mark, first-name, no-statement, no-else, block-brace}
+use Rattle.language.proofs.Pasts.{boundary-rule, boundary-alike}
 use Rattle.language.proofs.Sides.{variable-decides}
 
 module _ (vs : List Variable) (ts : List a-table) where
@@ -70,18 +68,6 @@ module _ (vs : List Variable) (ts : List a-table) where
       omega arith
 
   -- assignments
-  boundary-rule : {past : List Word} → Boundary past → (n : List ℕ) (p : Place) (b : Bool) → rule past (name n p) b ≡ cond (not (is-variable n past)) 8 0
-  boundary-rule at-start n p b = refl
-  boundary-rule behind-semicolon n p b = refl
-  boundary-rule behind-open n p b = refl
-  boundary-rule behind-close n p b = refl
-
-  boundary-alike : {past : List Word} → Boundary past → (n : List ℕ) (p : Place) → Alike (name n p ∷ past) past
-  boundary-alike at-start n p = alike-name n p [] refl refl
-  boundary-alike (behind-semicolon {p = a} {past = past}) n p = alike-name n p (mark Semicolon a ∷ past) refl refl
-  boundary-alike (behind-open {p = a} {past = past}) n p = alike-name n p (mark OpenBrace a ∷ past) refl refl
-  boundary-alike (behind-close {p = a} {past = past}) n p = alike-name n p (mark CloseBrace a ∷ past) refl refl
-
   pub body-assigning : (t : Text) (k : List Expect) (past : List Word) → first-names t ≡ true → refusal (body ∷ k) past t ≡ refusal (assigning ++ (body ∷ k)) past t
   body-assigning t k past e = let h = first-name t e in ap (refusal (body ∷ k) past) (h .3) ∙ ap (refusal (assigning ++ (body ∷ k)) past) (sym (h .3))
 

@@ -1,5 +1,5 @@
 -- Conditions, passed or refused.
-use mathlib.Core.Path.{_≡_, refl, sym, ap, subst, _∙_}
+use mathlib.Core.Path.{_≡_, refl, sym, ap, _∙_}
 use mathlib.Core.Bool.{Bool, true, false, cond, not}
 use mathlib.Core.List.{List, [], _∷_, _++_, append-assoc}
 use Prim.Native.Nat.{ℕ}
@@ -11,26 +11,25 @@ use Rattle.words.specs.Words.{Word, Text, among, same}
 use Rattle.words.specs.Words.Word.{name, number, mark}
 use Rattle.words.specs.Words.Text.{ends, fails, reads}
 use Rattle.words.specs.declared.Mark.{Mark}
-use Rattle.words.specs.declared.Mark.the-variants.{Less, LessEqual, Greater, GreaterEqual, If, While}
-use Rattle.language.specs.Grammar.{Order, Operand, Condition, Compare, Compared, Cond}
-use Rattle.language.specs.Grammar.Order.{below, at-most, above, at-least}
+use Rattle.words.specs.declared.Mark.the-variants.{Less, LessEqual, Greater, GreaterEqual}
+use Rattle.language.specs.Grammar.{Order, Operand, Compare}
 use Rattle.language.specs.Grammar.Operand.{against, limit}
 use Rattle.language.specs.Grammar.Condition.{compares}
 use Rattle.language.specs.Grammar.Compare.{less, less-equal, greater, greater-equal}
 use Rattle.language.specs.Grammar.Compared.{named, fixed}
 use Rattle.language.specs.Grammar.Cond.{condition as a-condition}
-use Rattle.language.specs.Graphs.{Variable, Table as a-table, var-names, table-names}
-use Rattle.language.specs.Names.{rule, names-behind, is-variable, next-is-bracket}
+use Rattle.language.specs.Graphs.{Variable, Table as a-table, var-names}
+use Rattle.language.specs.Names.{rule, next-is-bracket}
 use Rattle.language.specs.Expected.{Expect, one, refusal, refuse}
 use Rattle.language.specs.Expected.Expect.{just, const, condition, operator, operand}
 use Rattle.language.specs.Expected.Terminal.{any-name}
-use Rattle.language.specs.Readings.{before, passed, first-is, first-names, Refuses, Anywhere, Alike, Over, Constant, Quiet, is-operator, is-operand, is-condition, Orders, Compares, Asks, Known, Knows-asks, Knows-compares}
+use Rattle.language.specs.Readings.{before, passed, first-is, first-names, Refuses, Anywhere, Over, Constant, is-operator, is-operand, is-condition, Orders, Knows-asks, Knows-compares}
 use Rattle.language.specs.Readings.Orders.{less-than, at-most-than, greater-than, at-least-than}
 use Rattle.language.specs.Readings.Compares.{comparing}
-use Rattle.language.specs.Readings.Asks.{behind-if, behind-while}
 use Rattle.language.proofs.Passing.{decided-word}
-use Rattle.language.proofs.Steps.{before-++, passed-++, alike-name, alike-then, last-operator, operand-const, condition-name}
+use Rattle.language.proofs.Steps.{before-++, passed-++, alike-then, last-operator, operand-const, condition-name}
 use Rattle.language.proofs.Numbers.{const-derived, const-alike, const-goes}
+use Rattle.language.proofs.Pasts.{order-alike, compares-rule, compares-alike, compares-quiet, asks-rule, asks-alike}
 use Rattle.language.proofs.Sides.{variable-decides}
 
 -- comparisons
@@ -40,7 +39,7 @@ over-order {m} {o} a p t t₂ e =
       words = mark m p ∷ [];
       joined = e;
       derived = (compared a, (λ n q past. comparing a));
-      alike = λ past c. alike a past;
+      alike = λ past c. order-alike a past p;
       goes = λ k past c. ap (refusal (operator ∷ k) past) e ∙ passes a k past;
     }
   where
@@ -49,12 +48,6 @@ over-order {m} {o} a p t t₂ e =
     compared at-most-than r = less-equal
     compared greater-than r = greater
     compared at-least-than r = greater-equal
-
-    alike : {m : Mark} {o : Order} → Orders m o → (past : List Word) → Alike (mark m p ∷ past) past
-    alike less-than past = record { vars = refl; tabs = refl; lev = refl }
-    alike at-most-than past = record { vars = refl; tabs = refl; lev = refl }
-    alike greater-than past = record { vars = refl; tabs = refl; lev = refl }
-    alike at-least-than past = record { vars = refl; tabs = refl; lev = refl }
 
     passes : {m : Mark} {o : Order} → Orders m o → (k : List Expect) (past : List Word) → refusal (operator ∷ k) past (reads (mark m p) t₂) ≡ refusal k (mark m p ∷ past) t₂
     passes less-than k past = refl
@@ -67,14 +60,6 @@ pub refuses-operator : (t : Text) (r : Refusal) → first-is Less t ≡ false �
 refuses-operator t r a b c h k past u = last-operator k past t a b c ∙ h k past u
 
 module _ (vs : List Variable) (ts : List a-table) where
-  -- the second name of a condition: a variable, and not the first name
-
-  second-rule : {n₀ : List ℕ} {past : List Word} → Compares n₀ past → (n : List ℕ) (p : Place) (b : Bool) → rule past (name n p) b ≡ cond (not (is-variable n past)) 8 (cond (same n n₀) 11 0)
-  second-rule (comparing less-than) n p b = refl
-  second-rule (comparing at-most-than) n p b = refl
-  second-rule (comparing greater-than) n p b = refl
-  second-rule (comparing at-least-than) n p b = refl
-
   pub against-decides : (n₀ n : List ℕ) (p : Place) (t t₁ : Text) (x y : Bool) → t ≡ reads (name n p) t₁ → among n (var-names vs) ≡ x → same n n₀ ≡ y →
       (k : List Expect) (past : List Word) → Knows-compares vs ts n₀ past →
       refusal (operand ∷ k) past t ≡ cond (not x) (refuse 8 p) (cond y (refuse 11 p) (refusal k (name n p ∷ past) t₁))
@@ -82,7 +67,7 @@ module _ (vs : List Variable) (ts : List a-table) where
     where
       decide : (x y : Bool) → among n (var-names vs) ≡ x → same n n₀ ≡ y → rule past (name n p) (next-is-bracket t₁) ≡ cond (not x) 8 (cond y 11 0)
       decide x y h i =
-          second-rule (c .compares) n p (next-is-bracket t₁) ∙ ap (λ (ns : List (List ℕ)). cond (not (among n ns)) 8 (cond (same n n₀) 11 0)) (c .known .vars) ∙
+          compares-rule (c .compares) n p (next-is-bracket t₁) ∙ ap (λ (ns : List (List ℕ)). cond (not (among n ns)) 8 (cond (same n n₀) 11 0)) (c .known .vars) ∙
           ap (λ (b : Bool). cond (not b) 8 (cond (same n n₀) 11 0)) h ∙ ap (λ (b : Bool). cond (not x) 8 (cond b 11 0)) i
 
       go : (x y : Bool) → rule past (name n p) (next-is-bracket t₁) ≡ cond (not x) 8 (cond y 11 0) →
@@ -90,18 +75,6 @@ module _ (vs : List Variable) (ts : List a-table) where
       go false y q = decided-word (operand ∷ k) past (name n p) t₁ k 7 true refl q
       go true true q = decided-word (operand ∷ k) past (name n p) t₁ k 10 true refl q
       go true false q = decided-word (operand ∷ k) past (name n p) t₁ k 0 false refl q
-
-  compares-alike : {n₀ : List ℕ} {past : List Word} → Compares n₀ past → (n : List ℕ) (p : Place) → Alike (name n p ∷ past) past
-  compares-alike (comparing less-than) n p = alike-name n p _ refl refl
-  compares-alike (comparing at-most-than) n p = alike-name n p _ refl refl
-  compares-alike (comparing greater-than) n p = alike-name n p _ refl refl
-  compares-alike (comparing at-least-than) n p = alike-name n p _ refl refl
-
-  compares-quiet : {n₀ : List ℕ} {past : List Word} → Compares n₀ past → Quiet past
-  compares-quiet (comparing less-than) = record { minus = refl; dots = refl; bracket = refl }
-  compares-quiet (comparing at-most-than) = record { minus = refl; dots = refl; bracket = refl }
-  compares-quiet (comparing greater-than) = record { minus = refl; dots = refl; bracket = refl }
-  compares-quiet (comparing at-least-than) = record { minus = refl; dots = refl; bracket = refl }
 
   pub over-against : (n₀ n : List ℕ) (p : Place) (t t₁ : Text) → t ≡ reads (name n p) t₁ → among n (var-names vs) ≡ true → same n n₀ ≡ false →
       Over (operand ∷ []) (Knows-compares vs ts n₀) (is-operand (against n)) t t₁
@@ -136,14 +109,6 @@ module _ (vs : List Variable) (ts : List a-table) where
   refuses-limit n₀ t r a h k past y = operand-const k past t a ∙ h k past tt
 
   -- whole conditions
-  asks-rule : {past : List Word} → Asks past → (n : List ℕ) (p : Place) (b : Bool) → rule past (name n p) b ≡ cond (not (is-variable n past)) 8 0
-  asks-rule behind-if n p b = refl
-  asks-rule behind-while n p b = refl
-
-  asks-alike : {past : List Word} → Asks past → (n : List ℕ) (p : Place) → Alike (name n p ∷ past) past
-  asks-alike (behind-if {p = a} {past = past}) n p = alike-name n p (mark If a ∷ past) refl refl
-  asks-alike (behind-while {p = a} {past = past}) n p = alike-name n p (mark While a ∷ past) refl refl
-
   pub refuses-left : (t : Text) (r : Refusal) → Refuses (just any-name ∷ []) Anywhere t r → Refuses (condition ∷ []) (Knows-asks vs ts) t r
   refuses-left t r h k past y = condition-name k past t ∙ h (operator ∷ operand ∷ k) past tt
 

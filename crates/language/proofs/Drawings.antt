@@ -1,14 +1,14 @@
 -- The graph of a tree whose names are declared is well formed.
-use mathlib.Core.Path.{_≡_, refl, sym, ap, subst, _∙_}
+use mathlib.Core.Path.{_≡_, refl, ap, subst}
 use mathlib.Core.Bool.{Bool, true, false, cond, _||_}
 use mathlib.Core.List.{List, [], _∷_, _++_}
-use Prim.Native.Nat.{ℕ, zero, suc, _≤_, _<_, _+_, _-_}
+use Prim.Native.Nat.{ℕ, zero, suc, _≤_, _<_, _-_}
 use native.Mathlib.Omega.{arith}
 use lib.ListN.{length, getD}
 use lib.IntN.{ℤ, pos, negsuc, subℕ, _+ℤ_, _-ℤ_}
 use lib.Dec.{eqb, ltb}
 use mathlib.Core.Logic.{_⊎_, inl, inr}
-use Rattle.std.specs.declared.option.Option.the-variants.{Some, None}
+use Rattle.std.specs.declared.option.Option.the-variants.{Some}
 use Rattle.words.proofs.Told.{no-some}
 use Rattle.std.proofs.shelf.Tests.{false≢true, cond-true, eq-eqb, cases-lt, cond-both, ltb-true}
 use Rattle.words.specs.Words.{same, among}
@@ -20,11 +20,11 @@ use Rattle.language.specs.Grammar.Order.{below, at-most, above, at-least}
 use Rattle.language.specs.Grammar.Operand.{against, limit}
 use Rattle.language.specs.Grammar.Condition.{compares}
 use Rattle.language.specs.Grammar.Statements.{done, assign, choose, repeat}
-use Rattle.language.specs.Graphs.{Variable, Table, variables, tables, var-names, table-names, number-of, var-number, table-number, Drawing, Graph, blank-sheet, fresh, back, stand, note, guard, opposite, holds, fails, draw-read, draw-assign, draw, graph, maker, Made, Each, Below, Well-formed, Named-operand, Named-condition, Named-side, Named, Declared, size, Within, Small-operand, Small-condition, Small-side, Small, Small-heads, Small-tree, table-at, no-table}
+use Rattle.language.specs.Graphs.{Variable, Table, variables, tables, var-names, table-names, number-of, var-number, table-number, Drawing, blank-sheet, fresh, back, stand, note, guard, opposite, holds, fails, draw-assign, draw, graph, maker, Made, Each, Below, Well-formed, Named-operand, Named-condition, Named-side, Named, Declared, size, Within, Small-operand, Small-condition, Small-side, Small, Small-heads, Small-tree, table-at, no-table}
 use Rattle.language.specs.Graphs.Made.{none, next, again}
 use Rattle.refusal.specs.declared.Place.{Place}
 use Rattle.language.specs.declared.Action.{Action}
-use Rattle.language.specs.declared.Action.the-variants.{Skip, Any, Read, Shift, Negate, AtMost, AtLeast, Before}
+use Rattle.language.specs.declared.Action.the-variants.{Skip}
 use Rattle.language.specs.declared.Edge.{Edge}
 use Rattle.language.specs.declared.Lookup.{Lookup}
 

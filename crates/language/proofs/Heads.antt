@@ -1,8 +1,8 @@
 -- Declarations, passed or refused.
 use mathlib.Core.Path.{_≡_, refl, sym, ap, subst, _∙_}
-use mathlib.Core.Bool.{Bool, true, false, cond, not, _&&_, _||_}
+use mathlib.Core.Bool.{Bool, true, false, cond, _||_}
 use mathlib.Core.List.{List, [], _∷_, _++_, append-assoc}
-use Prim.Native.Nat.{ℕ, suc, _+_, _≤_, _<_}
+use Prim.Native.Nat.{ℕ, suc, _+_, _<_}
 use native.Mathlib.Omega.{arith}
 use lib.Dec.{leb, ltb, eqb}
 use lib.ListN.{length, length-append}
@@ -11,20 +11,19 @@ use Rattle.refusal.specs.declared.Place.{Place}
 use Rattle.refusal.specs.declared.Refusal.{Refusal}
 use Rattle.words.specs.Words.{Word, Text, among}
 use Rattle.words.specs.Words.Word.{name, number, mark}
-use Rattle.words.specs.Words.Text.{ends, fails, reads}
-use Rattle.words.specs.declared.Mark.{Mark}
+use Rattle.words.specs.Words.Text.{reads}
 use Rattle.words.specs.declared.Mark.the-variants.{Equals, OpenBracket, CloseBracket, Semicolon, Var, Table}
 use Rattle.language.specs.declared.Range.{Range}
-use Rattle.language.specs.Grammar.{Declaration, Span, Heads}
+use Rattle.language.specs.Grammar.{Declaration, Heads}
 use Rattle.language.specs.Grammar.Declaration.{variable, table}
-use Rattle.language.specs.Grammar.Heads.{no-decl, var-decl, table-decl}
+use Rattle.language.specs.Grammar.Heads.{var-decl, table-decl}
 use Rattle.language.specs.Graphs.{Variable, Table as a-table, variables, tables, var-names, table-names}
 use Rattle.language.specs.Rules.{words}
 use Rattle.language.specs.Names.{rule, names-behind, next-is-bracket}
 use Rattle.language.specs.Expected.{Expect, one, step, refusal, refuse}
 use Rattle.language.specs.Expected.Expect.{just, heads, span}
 use Rattle.language.specs.Expected.Terminal.{any-name, any-number}
-use Rattle.language.specs.Readings.{before, passed, first-is, Refuses, Anywhere, Over, Quiet, is-span, Boundary, Known, New, Starts, Declares, Declared, varying, tabling}
+use Rattle.language.specs.Readings.{before, passed, first-is, Refuses, Anywhere, Over, Quiet, is-span, New, Starts, Declares, Declared, varying, tabling}
 use Rattle.language.specs.Readings.New.{new-variable, new-table}
 use Rattle.language.specs.Readings.Boundary.{at-start, behind-semicolon}
 use Rattle.language.proofs.Passing.{pass-word, broken-word, decided-word}

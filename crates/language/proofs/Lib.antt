@@ -7,6 +7,7 @@ pub mod Verdicts
 pub mod Passing
 pub mod Turning
 pub mod Steps
+pub mod Pasts
 pub mod Numbers
 pub mod Sides
 pub mod Conditions

@@ -1,17 +1,14 @@
 -- What is expected agrees with the grammar.
 use mathlib.Core.Path.{_≡_, refl, sym, ap, subst, _∙_}
-use mathlib.Core.Bool.{Bool, true, false, cond, _&&_}
-use mathlib.Core.List.{List, [], _∷_, _++_, append-assoc}
+use mathlib.Core.Bool.{Bool, true, false, cond}
+use mathlib.Core.List.{List, [], _∷_, _++_}
 use Prim.Native.Nat.{ℕ}
-use lib.Dec.{eqb}
-use lib.ListN.{getD}
-use native.Mathlib.Omega.{arith}
 use Rattle.std.specs.declared.option.Option.{Option}
 use Rattle.std.specs.declared.option.Option.the-variants.{Some, None}
-use Rattle.std.proofs.shelf.Tests.{eqb-true, and-parts, true≢false, false≢true}
+use Rattle.std.proofs.shelf.Tests.{and-parts, false≢true}
 use Rattle.words.specs.Words.{Word}
 use Rattle.words.specs.Words.Word.{name, number, mark}
-use Rattle.words.specs.Marks.{code, is}
+use Rattle.words.specs.Marks.{is}
 use Rattle.words.proofs.Told.{mark-same, no-some}
 use Rattle.language.specs.Grammar.{Declaration, Side, Order, Operand, Condition, Statements, Tree, Const, Span, Heads, Compare, Compared, Cond, Right, Body, Script, Begins}
 use Rattle.language.specs.Grammar.Const.{plain, signed}

@@ -1,44 +1,28 @@
 -- Constants and ranges, passed or refused.
 use mathlib.Core.Path.{_≡_, refl, sym, ap, subst, _∙_}
-use mathlib.Core.Bool.{Bool, true, false, cond, _&&_}
+use mathlib.Core.Bool.{Bool, true, false, cond}
 use mathlib.Core.List.{List, [], _∷_, _++_, append-assoc}
 use Prim.Native.Nat.{ℕ}
 use lib.IntN.{ℤ, pos, negℤ}
 use lib.Signed.{ltZ}
-use Rattle.std.proofs.shelf.Tests.{false≢true}
 use Rattle.refusal.specs.declared.Place.{Place}
 use Rattle.refusal.specs.declared.Refusal.{Refusal}
 use Rattle.words.specs.Words.{Word, Text}
-use Rattle.words.specs.Words.Word.{name, number, mark}
+use Rattle.words.specs.Words.Word.{number, mark}
 use Rattle.words.specs.Words.Text.{reads}
-use Rattle.words.specs.declared.Mark.{Mark}
-use Rattle.words.specs.declared.Mark.the-variants.{Dots, Minus, OpenBracket}
-use Rattle.language.specs.declared.Range.{Range}
-use Rattle.language.specs.Grammar.{Const, Span}
+use Rattle.words.specs.declared.Mark.the-variants.{Dots, Minus}
+use Rattle.language.specs.Grammar.{Const}
 use Rattle.language.specs.Grammar.Const.{plain as a-plain, signed as a-signed}
 use Rattle.language.specs.Grammar.Span.{span as a-span}
-use Rattle.language.specs.Names.{rule, follows, falls-behind, signed as with-sign, next-is-bracket}
+use Rattle.language.specs.Names.{signed as with-sign, next-is-bracket}
 use Rattle.language.specs.Expected.{Expect, one, refusal, refuse}
 use Rattle.language.specs.Expected.Expect.{just, span, const}
 use Rattle.language.specs.Expected.Terminal.{any-number}
-use Rattle.language.specs.Readings.{before, passed, first-is, said, Refuses, Anywhere, Alike, Over, Spells, Constant, Quiet, is-span}
+use Rattle.language.specs.Readings.{before, passed, first-is, Refuses, Anywhere, Alike, Over, Spells, Constant, Quiet, is-span}
 use Rattle.language.specs.Readings.Spells.{plain, signed}
 use Rattle.language.proofs.Passing.{pass-word, decided-word}
 use Rattle.language.proofs.Steps.{before-++, passed-++, plain-const, span-const}
-
--- a number where no rule looks at the past
-quiet-tests : (m d o x y z : Bool) → m ≡ false → d ≡ false → o ≡ false → _≡_ {A = ℕ} (cond (cond m x (d && y)) 9 (cond (o && z) 10 0)) 0
-quiet-tests false false false x y z e f g = refl
-quiet-tests true d o x y z e f g = absurd (false≢true (sym e))
-quiet-tests false true o x y z e f g = absurd (false≢true (sym f))
-quiet-tests false false true x y z e f g = absurd (false≢true (sym g))
-
-pub quiet-rule : (past : List Word) (n : ℕ) (p : Place) (b : Bool) → Quiet past → rule past (number n p) b ≡ 0
-quiet-rule past n p b q = quiet-tests (follows Minus past) (follows Dots past) (follows OpenBracket past) _ _ _ (q .minus) (q .dots) (q .bracket)
-
--- and behind a sign
-quiet-signed : (past : List Word) (s : Place) (n : ℕ) (p : Place) (b : Bool) → Quiet past → rule (mark Minus s ∷ past) (number n p) b ≡ 0
-quiet-signed past s n p b q = ap (λ (d : Bool). cond (d && falls-behind (Rattle.language.specs.Names.before past) (negℤ (pos n))) 9 0) (q .dots)
+use Rattle.language.proofs.Pasts.{quiet-rule, quiet-signed}
 
 pub const-derived : {ws : List Word} {z : ℤ} {p : Place} → Spells ws z p → (r : List Word) → Const (ws ++ r) r z
 const-derived plain r = a-plain

@@ -1,12 +1,12 @@
 -- One word of a one-pass reader: what is left to refuse does not change over a word that passes.
-use mathlib.Core.Path.{_≡_, refl, ap, _∙_}
+use mathlib.Core.Path.{_≡_, ap, _∙_}
 use mathlib.Core.Bool.{Bool, true, false, cond}
-use mathlib.Core.List.{List, [], _∷_}
+use mathlib.Core.List.{List, _∷_}
 use Prim.Native.Nat.{ℕ, zero, suc}
 use Rattle.std.specs.declared.option.Option.{Option}
 use Rattle.std.specs.declared.option.Option.the-variants.{Some, None}
 use Rattle.words.specs.Words.{Word, Text, place}
-use Rattle.words.specs.Words.Text.{ends, fails, reads}
+use Rattle.words.specs.Words.Text.{reads}
 use Rattle.language.specs.Names.{rule, next-is-bracket}
 use Rattle.language.specs.Expected.{Expect, step, Refusal, refusal, refuse}
 

@@ -1,13 +1,10 @@
 -- The examples, by computation.
-use mathlib.Core.Path.{_≡_, refl}
-use mathlib.Core.List.{List, [], _∷_}
-use Prim.Native.Nat.{ℕ, _≤_}
+use mathlib.Core.Path.{refl}
 use lib.Dec.{lit≤}
-use lib.ListN.{length}
 use lib.Chars.{codes}
 use Rattle.words.specs.Words.{text}
 use Rattle.language.specs.Grammar.{Tree, Script}
-use Rattle.language.specs.Grammar.Const.{plain, signed}
+use Rattle.language.specs.Grammar.Const.{plain}
 use Rattle.language.specs.Grammar.Span.{span}
 use Rattle.language.specs.Grammar.Heads.{no-decl, var-decl, table-decl}
 use Rattle.language.specs.Grammar.Compare.{less, greater-equal}
@@ -17,7 +14,7 @@ use Rattle.language.specs.Grammar.Right.{a-sum, a-difference, a-negation, a-se
 use Rattle.language.specs.Grammar.Body.{no-stmt, assignment, if-else-stmt, while-stmt}
 use Rattle.language.specs.Grammar.Script.{script}
 use Rattle.language.specs.Names.{Verdict}
-use Rattle.language.specs.Names.Outcome.{refused, drawn}
+use Rattle.language.specs.Names.Outcome.{drawn}
 use Rattle.language.specs.Names.Verdict.{fine}
 use Rattle.language.specs.Examples.{Examples, Refuses, at, counting, counting-graph, looking-up, looking-up-graph, choosing, choosing-graph}
 use Rattle.words.proofs.Reading.{reads-text}

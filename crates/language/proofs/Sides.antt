@@ -1,19 +1,18 @@
 -- Right sides of assignments, passed or refused.
 use mathlib.Core.Path.{_≡_, refl, sym, ap, subst, _∙_}
-use mathlib.Core.Bool.{Bool, true, false, cond, not, _&&_}
-use mathlib.Core.List.{List, [], _∷_, _++_}
+use mathlib.Core.Bool.{Bool, true, false, cond, not}
+use mathlib.Core.List.{List, [], _∷_}
 use Prim.Native.Nat.{ℕ}
 use lib.IntN.{ℤ, pos, negℤ}
 use Rattle.std.proofs.shelf.Tests.{false≢true}
-use Rattle.std.specs.declared.option.Option.{Option}
-use Rattle.std.specs.declared.option.Option.the-variants.{Some, None}
+use Rattle.std.specs.declared.option.Option.the-variants.{Some}
 use Rattle.refusal.specs.declared.Place.{Place}
 use Rattle.refusal.specs.declared.Refusal.{Refusal}
 use Rattle.words.specs.Words.{Word, Text, among}
 use Rattle.words.specs.Words.Word.{name, number, mark}
 use Rattle.words.specs.Words.Text.{ends, fails, reads}
 use Rattle.words.specs.declared.Mark.{Mark}
-use Rattle.words.specs.declared.Mark.the-variants.{Becomes, Plus, Minus, OpenBracket, CloseBracket, Hear, Sense, Var, Table}
+use Rattle.words.specs.declared.Mark.the-variants.{Becomes, Plus, Minus, OpenBracket, CloseBracket, Hear, Sense}
 use Rattle.language.specs.declared.Range.{Range}
 use Rattle.language.specs.declared.Source.{Source}
 use Rattle.language.specs.Grammar.{Side, Span, Right}
@@ -21,17 +20,17 @@ use Rattle.language.specs.Grammar.Side.{constant, shifted, negated, any, readi
 use Rattle.language.specs.Grammar.Const.{plain as a-plain, signed as a-signed}
 use Rattle.language.specs.Grammar.Right.{a-const, a-copy, a-sum, a-difference, a-negation, a-hear, a-sense, a-lookup}
 use Rattle.language.specs.Graphs.{Variable, Table as a-table, var-names, table-names}
-use Rattle.language.specs.Names.{rule, names-behind, is-variable, is-table, next-is-bracket}
+use Rattle.language.specs.Names.{rule, is-variable, is-table, next-is-bracket}
 use Rattle.language.specs.Expected as expected
 use Rattle.language.specs.Expected.{Expect, one, step, refusal, refuse}
 use Rattle.language.specs.Expected.Expect.{just, span, right, behind-minus, behind-name}
 use Rattle.language.specs.Expected.Terminal.{any-name, any-number}
-use Rattle.language.specs.Readings.{before, passed, first-is, first-names, said, Refuses, Anywhere, Alike, Over, Quiet, is-span, is-right, is-negative, is-index, Announces, Shifts, Behind, Negates, Known, Knows-behind, Knows-negates}
+use Rattle.language.specs.Readings.{first-is, first-names, said, Refuses, Anywhere, Alike, Over, Quiet, is-span, is-right, is-negative, is-index, Announces, Shifts, Behind, Negates, Known, Knows-behind, Knows-negates}
 use Rattle.language.specs.Readings.Announces.{heard, sensed}
 use Rattle.language.specs.Readings.Shifts.{plus, minus}
 use Rattle.language.specs.Readings.Behind.{behind}
 use Rattle.language.specs.Readings.Negates.{negates}
-use Rattle.language.proofs.Passing.{pass-word, decided-word}
+use Rattle.language.proofs.Passing.{decided-word}
 use Rattle.language.proofs.Steps.{alike-name, alike-then, no-shift, right-number, minus-number}
 
 -- a bracket is next

@@ -1,7 +1,7 @@
 -- The constants of a script are at most 2147483647 in size.
-use mathlib.Core.Path.{_≡_, refl, sym, ap, subst, _∙_}
-use mathlib.Core.Bool.{Bool, true, false, cond}
-use mathlib.Core.List.{List, [], _∷_, _++_}
+use mathlib.Core.Path.{subst}
+use mathlib.Core.Bool.{false}
+use mathlib.Core.List.{List, [], _∷_}
 use Prim.Native.Nat.{ℕ, zero, suc, _≤_}
 use native.Mathlib.Omega.{arith}
 use lib.ListN.{length, drop}
@@ -10,11 +10,11 @@ use lib.IntN.{ℤ, pos, negℤ}
 use Rattle.std.specs.declared.option.Option.{Option}
 use Rattle.std.specs.declared.option.Option.the-variants.{Some, None}
 use Rattle.std.proofs.shelf.Tests.{cond-both, leb-true}
-use Rattle.words.specs.Words.{Word, Next, Text, Reads, Part, Spelling, start, letter, digit, inner, run, gap, behind, reserved, reserved-in, name-word, letters-next, digits-next, value, symbols, symbol-in, symbol-part, part, next}
+use Rattle.words.specs.Words.{Word, Next, Text, Reads, Part, Spelling, letter, digit, inner, run, gap, behind, reserved, reserved-in, name-word, value, symbols, symbol-in, symbol-part, part, next}
 use Rattle.words.specs.Words.Word.{name, number, mark}
 use Rattle.words.specs.Words.Next.{word, fault, end}
 use Rattle.words.specs.Words.Reads.{at-end, at-fault, at-word}
-use Rattle.language.specs.Grammar.{Declaration, Side, Order, Operand, Condition, Statements, Tree, Const, Span, Heads, Compare, Compared, Cond, Right, Body, Script}
+use Rattle.language.specs.Grammar.{Declaration, Side, Operand, Condition, Statements, Tree, Const, Span, Heads, Compared, Cond, Right, Body, Script}
 use Rattle.language.specs.Grammar.Const.{plain, signed}
 use Rattle.language.specs.Grammar.Span.{span}
 use Rattle.language.specs.Grammar.Heads.{no-decl, var-decl, table-decl}

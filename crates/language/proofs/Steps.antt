@@ -1,26 +1,25 @@
 -- Words passed in turn, and words that are expected in the same way.
-use mathlib.Core.Path.{_≡_, refl, sym, ap, subst, _∙_}
+use mathlib.Core.Path.{_≡_, refl, sym, ap, _∙_}
 use mathlib.Core.Bool.{Bool, true, false, cond, _&&_, _||_}
 use mathlib.Core.List.{List, [], _∷_, _++_}
-use Prim.Native.Nat.{ℕ, _+_}
-use lib.Dec.{eqb}
+use Prim.Native.Nat.{ℕ}
 use Rattle.std.specs.declared.option.Option.{Option}
 use Rattle.std.specs.declared.option.Option.the-variants.{Some, None}
 use Rattle.std.proofs.shelf.Tests.{false≢true, or-parts}
 use Rattle.refusal.specs.declared.Place.{Place}
-use Rattle.words.specs.Words.{Word, Text, place}
+use Rattle.words.specs.Words.{Word, Text}
 use Rattle.words.specs.Words.Word.{name, number, mark}
 use Rattle.words.specs.Words.Text.{ends, fails, reads}
-use Rattle.words.specs.Marks.{code, is}
+use Rattle.words.specs.Marks.{is}
 use Rattle.words.proofs.Told.{mark-same}
 use Rattle.words.specs.declared.Mark.{Mark}
-use Rattle.words.specs.declared.Mark.the-variants.{Becomes, Dots, LessEqual, GreaterEqual, Less, Greater, Equals, Plus, Minus, OpenBrace, CloseBrace, OpenBracket, CloseBracket, Semicolon, Var, Table, If, Else, While, Hear, Sense}
+use Rattle.words.specs.declared.Mark.the-variants.{Dots, LessEqual, GreaterEqual, Less, Greater, Plus, Minus, OpenBrace, CloseBrace, OpenBracket, Var, Table, If, Else, While, Hear, Sense}
 use Rattle.language.specs.Rules.{words}
-use Rattle.language.specs.Names.{rule, follows, names-behind, level, next-is-bracket}
-use Rattle.language.specs.Expected.{Expect, Terminal, Refusal, fits, one, alternatives, optional, after, pick, step, complete, refusal, refuse}
+use Rattle.language.specs.Names.{follows, names-behind}
+use Rattle.language.specs.Expected.{Expect, one, alternatives, optional, after, pick, step, complete, refusal, refuse}
 use Rattle.language.specs.Expected.Expect.{just, heads, body, span, const, condition, operator, operand, block, else-part, right, behind-minus, behind-name}
-use Rattle.language.specs.Expected.Terminal.{the, any-name, any-number}
-use Rattle.language.specs.Readings.{before, passed, first-is, is-name, first-names, begins-statement, begins-declaration, Alike, Known, Quiet}
+use Rattle.language.specs.Expected.Terminal.{any-name, any-number}
+use Rattle.language.specs.Readings.{before, passed, first-is, is-name, first-names, begins-statement, begins-declaration, Alike}
 use Rattle.language.proofs.Passing.{by-step}
 
 pub before-++ : (xs ys : List Word) (t : Text) → before (xs ++ ys) t ≡ before xs (before ys t)
@@ -190,7 +189,7 @@ condition-name k past t = same-step (condition ∷ k) (just any-name ∷ operato
     at (mark m p) = refl
 
 -- Names and levels behind more words.
-nil : (ns : List (List ℕ)) → ns ++ [] ≡ ns
+pub nil : (ns : List (List ℕ)) → ns ++ [] ≡ ns
 nil [] = refl
 nil (n ∷ ns) = ap (λ (z : List (List ℕ)). n ∷ z) (nil ns)
 

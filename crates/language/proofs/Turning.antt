@@ -1,7 +1,6 @@
 -- Refusals handed on.
-use mathlib.Core.Path.{_≡_, refl, sym, ap, _∙_}
+use mathlib.Core.Path.{_≡_, sym, ap, _∙_}
 use mathlib.Core.List.{List, _++_}
-use Rattle.std.specs.declared.option.Option.the-variants.{Some}
 use Rattle.refusal.specs.Reasons.{number-of, located}
 use Rattle.refusal.specs.declared.Place.{Place}
 use Rattle.refusal.specs.declared.Reason.{Reason}

@@ -1,16 +1,13 @@
 -- At most one tree for a list of words.
-use mathlib.Core.Path.{_≡_, refl, sym, ap, subst, _∙_}
+use mathlib.Core.Path.{_≡_, refl, sym, ap, subst}
 use mathlib.Core.List.{List, [], _∷_}
-use Prim.Native.Nat.{ℕ}
 use lib.IntN.{ℤ}
 use Rattle.words.specs.Words.{Word}
-use Rattle.words.specs.Words.Word.{name, number, mark}
-use Rattle.language.specs.Grammar.{Declaration, Side, Order, Operand, Condition, Statements, Tree, Const, Span, Heads, Compare, Compared, Cond, Right, Body, Script}
+use Rattle.words.specs.Words.Word.{mark}
+use Rattle.language.specs.Grammar.{Declaration, Side, Operand, Condition, Statements, Tree, Const, Span, Heads, Compared, Cond, Right, Body, Script}
 use Rattle.language.specs.Grammar.Declaration.{variable, table}
 use Rattle.language.specs.Grammar.Side.{any}
-use Rattle.language.specs.Grammar.Operand.{limit}
 use Rattle.language.specs.Grammar.Order.{below, at-most, above, at-least}
-use Rattle.language.specs.Grammar.Side.{constant}
 use Rattle.language.specs.Grammar.Condition.{compares}
 use Rattle.language.specs.Grammar.Statements.{done, assign, choose, repeat}
 use Rattle.language.specs.Grammar.Const.{plain, signed}
@@ -25,8 +22,7 @@ use Rattle.language.specs.Grammar.Script.{script}
 use Rattle.refusal.specs.declared.Place.{Place}
 use Rattle.language.specs.declared.Range.{Range}
 use Rattle.language.specs.declared.Source.the-variants.{Sensed, Heard}
-use Rattle.words.specs.declared.Mark.{Mark}
-use Rattle.words.specs.declared.Mark.the-variants.{Becomes, Dots, Semicolon, OpenBrace, CloseBrace, Else, Var, Table, If, While}
+use Rattle.words.specs.declared.Mark.the-variants.{Semicolon, Else, Var, Table}
 use Rattle.language.proofs.Machine.{Closes}
 use Rattle.language.proofs.Machine.Closes.{ended, closed}
 

@@ -8,7 +8,7 @@ use lib.ListN.{length, length-append}
 use Rattle.std.specs.declared.option.Option.{Option}
 use Rattle.std.specs.declared.option.Option.the-variants.{Some, None}
 use Rattle.std.proofs.shelf.Tests.{false≢true, cases-lt}
-use Rattle.words.specs.Words.{Word, Text, Reads, place, text, start}
+use Rattle.words.specs.Words.{Word, Text, place, text}
 use Rattle.words.specs.Words.Text.{ends, fails, reads}
 use Rattle.language.specs.Grammar.{Tree, Script, Begins}
 use Rattle.language.specs.Names.{rule, next-is-bracket, in-order, Refused, Passes, Outcome, Verdict}

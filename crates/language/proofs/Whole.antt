@@ -10,32 +10,31 @@ use lib.ListN.{length}
 use Rattle.std.specs.declared.option.Option.{Option}
 use Rattle.std.specs.declared.option.Option.the-variants.{Some, None}
 use Rattle.std.specs.Options.{mapped}
-use Rattle.refusal.specs.Reasons.{number-of, no-memory}
+use Rattle.refusal.specs.Reasons.{number-of}
 use Rattle.refusal.specs.declared.Place.{Place}
 use Rattle.refusal.specs.declared.Refusal.{Refusal}
 use Rattle.words.specs.Words.{Word, Text, text}
-use Rattle.words.specs.Words.Text.{ends, fails, reads}
+use Rattle.words.specs.Words.Text.{ends}
 use Rattle.std.proofs.shelf.Tests.{eqb-true, cases-lt}
 use Rattle.words.proofs.Reading.{reads-text}
 use Rattle.words.proofs.Told.{no-some}
-use Rattle.language.specs.Grammar.{Declaration, Tree, Script, Heads, Body}
+use Rattle.language.specs.Grammar.{Tree, Script, Heads, Body}
 use Rattle.language.specs.Grammar.Statements.{done}
 use Rattle.language.specs.Grammar.Heads.{no-decl}
 use Rattle.language.specs.Grammar.Body.{no-stmt}
 use Rattle.language.specs.Grammar.Script.{script}
-use Rattle.language.specs.Graphs.{Variable, Table as a-table, Drawing, Graph, variables, tables, draw, blank-sheet, finished, graph, maker, Made}
+use Rattle.language.specs.Graphs.{Variable, Table as a-table, Drawing, Graph, draw, blank-sheet, finished, graph, maker, Made}
 use Rattle.language.specs.Graphs.Made.{none, next, again}
 use Rattle.language.specs.declared.Edge.{Edge}
 use Rattle.language.proofs.Drawings.{graph-made, maker-some}
-use Rattle.language.specs.Names.{Passes, Verdict, Outcome}
+use Rattle.language.specs.Names.{Passes, Verdict}
 use Rattle.language.specs.Names.Outcome.{refused, drawn}
 use Rattle.language.specs.Names.Verdict.{too-many, fine}
 use Rattle.language.specs.Rules.{words}
 use Rattle.language.specs.Expected as expected
-use Rattle.language.specs.Expected.{Expect, refusal, at-first}
+use Rattle.language.specs.Expected.{refusal, at-first}
 use Rattle.language.specs.Expected.Expect.{heads, body}
-use Rattle.language.specs.Readings.{before, passed, said, begins-statement, begins-declaration, Refuses, Turns-back, Unended, At-start, Starts, Stated, Declared}
-use Rattle.language.specs.Readings.Turns-back.{by-rule, by-want}
+use Rattle.language.specs.Readings.{before, passed, said, begins-statement, begins-declaration, Refuses, Unended, At-start, Starts, Stated, Declared}
 use Rattle.language.proofs.Steps.{words-before, no-statement, no-declaration}
 use Rattle.language.proofs.Verdicts.{passes-with, refused-at}
 

@@ -2,11 +2,10 @@
 use mathlib.Core.List.{List, [], _∷_}
 use Prim.Native.Nat.{ℕ}
 use lib.Chars.{codes}
-use lib.IntN.{ℤ, pos, negsuc}
-use Rattle.std.specs.declared.option.Option.{Option}
-use Rattle.std.specs.declared.option.Option.the-variants.{Some, None}
-use Rattle.language.specs.Graphs.{Graph, Variable, Table}
-use Rattle.language.specs.Names.{Outcome, Verdict}
+use lib.IntN.{pos, negsuc}
+use Rattle.std.specs.declared.option.Option.the-variants.{Some}
+use Rattle.language.specs.Graphs.{Graph}
+use Rattle.language.specs.Names.{Verdict}
 use Rattle.language.specs.Names.Outcome.{refused, drawn}
 use Rattle.refusal.specs.declared.Place.{Place}
 use Rattle.language.specs.declared.Range.{Range}
@@ -14,7 +13,6 @@ use Rattle.language.specs.declared.Action.{Action}
 use Rattle.language.specs.declared.Action.the-variants.{Skip, Any, Read, Shift, Negate, AtMost, AtLeast, Before}
 use Rattle.language.specs.declared.Source.the-variants.{Sensed}
 use Rattle.language.specs.declared.Edge.{Edge}
-use Rattle.language.specs.declared.Lookup.{Lookup}
 
 abbrev pub at : ℕ → ℕ → Place
 at l c = record { line = l; column = c }

@@ -16,7 +16,6 @@ use Rattle.refusal.specs.declared.Place.{Place}
 use Rattle.language.specs.declared.Range.{Range}
 use Rattle.language.specs.declared.Source.{Source}
 use Rattle.language.specs.declared.Source.the-variants.{Sensed, Heard}
-use Rattle.words.specs.declared.Mark.{Mark}
 use Rattle.words.specs.declared.Mark.the-variants.{Becomes, Dots, LessEqual, GreaterEqual, Less, Greater, Equals, Plus, Minus, OpenBrace, CloseBrace, OpenBracket, CloseBracket, Semicolon, Var, Table, If, Else, While, Hear, Sense}
 
 -- The tree. Names are their bytes.

@@ -1,6 +1,6 @@
 -- The graph of a script: points, numbered as made, and edges, in the order made.
 use mathlib.Core.Path.{_≡_}
-use mathlib.Core.Bool.{Bool, true, false, cond}
+use mathlib.Core.Bool.{true, cond}
 use mathlib.Core.List.{List, [], _∷_, _++_}
 use Prim.Native.Nat.{ℕ, suc, _<_, _≤_}
 use lib.Dec.{eqb}
@@ -18,7 +18,6 @@ use Rattle.language.specs.Grammar.Condition.{compares}
 use Rattle.language.specs.Grammar.Statements.{done, assign, choose, repeat}
 use Rattle.refusal.specs.declared.Place.{Place}
 use Rattle.language.specs.declared.Range.{Range}
-use Rattle.language.specs.declared.Source.{Source}
 use Rattle.language.specs.declared.Source.the-variants.{Written}
 use Rattle.language.specs.declared.Action.{Action}
 use Rattle.language.specs.declared.Action.the-variants.{Skip, Any, Read, Shift, Negate, AtMost, AtLeast, Before}

@@ -1,9 +1,8 @@
 -- What is proved of the definitions, as statements for the contracts.
 use mathlib.Core.Path.{_≡_}
-use mathlib.Core.Bool.{Bool, true}
-use mathlib.Core.List.{List, [], _∷_, _++_}
-use Prim.Native.Nat.{ℕ, _≤_, _<_}
-use Rattle.std.specs.declared.option.Option.{Option}
+use mathlib.Core.Bool.{true}
+use mathlib.Core.List.{List, []}
+use Prim.Native.Nat.{ℕ, _≤_}
 use Rattle.std.specs.declared.option.Option.the-variants.{Some, None}
 use Rattle.words.specs.Words.{Word, Text}
 use Rattle.language.specs.Grammar.{Tree, Script, Begins}
@@ -13,7 +12,7 @@ use Rattle.language.specs.Names.Outcome.{drawn}
 use Rattle.language.specs.Rules.{Keeps, whole}
 use Rattle.refusal.specs.declared.Place.{Place}
 use lib.ListN.{length}
-use Rattle.language.specs.Expected.{Expect, steps, complete, accepted, at-first, Refusal, refusal}
+use Rattle.language.specs.Expected.{Expect, steps, accepted, at-first, Refusal, refusal}
 
 -- Words have at most one tree. What is expected next says which words begin a script, and which are one.
 pub record Grammar-stands : Type 0 where

@@ -1,9 +1,8 @@
 -- The rules 6 to 12 as statements about the tree. That a text passes exactly if its tree keeps them is proved.
 use mathlib.Core.Path.{_≡_}
-use mathlib.Core.Bool.{Bool, true, false}
+use mathlib.Core.Bool.{false}
 use mathlib.Core.List.{List, [], _∷_, _++_}
 use Prim.Native.Nat.{ℕ, suc, _<_, _≤_}
-use lib.IntN.{ℤ}
 use lib.Signed.{ltZ}
 use lib.ListN.{length}
 use Rattle.words.specs.Words.{Word, Text, same, among}

@@ -1,6 +1,6 @@
 -- Edges grouped by target.
-use mathlib.Core.Path.{_≡_, refl, sym, ap, subst, _∙_}
-use mathlib.Core.Bool.{Bool, true, false, cond, _&&_}
+use mathlib.Core.Path.{_≡_, refl, sym, ap, _∙_}
+use mathlib.Core.Bool.{Bool, true, cond}
 use mathlib.Core.List.{List, [], _∷_, _++_, append-assoc}
 use Prim.Native.Nat.{ℕ, zero, suc, _+_, _-_, _≤_, _<_}
 use native.Mathlib.Omega.{arith}
@@ -11,7 +11,7 @@ use Rattle.std.proofs.shelf.Lists.{drop-more, drop-all}
 use Rattle.std.proofs.shelf.Tests.{cond-true, cond-false, eq-eqb, ne-eqb, lt-ltb, and-from, cases-lt}
 use mathlib.Core.Logic.{_⊎_, inl, inr}
 use Rattle.language.specs.Graphs as graphs
-use Rattle.language.specs.Graphs.{Made, Each, Below, Within}
+use Rattle.language.specs.Graphs.{Made, Each, Below}
 use Rattle.language.specs.Graphs.Made.{none, next, again}
 use Rattle.language.specs.declared.Action.{Action}
 use Rattle.language.specs.declared.Action.the-variants.{Skip, Any, Read, Shift, Negate, AtMost, AtLeast, Before}

@@ -1,12 +1,12 @@
 -- Names looked up in lists.
-use mathlib.Core.Path.{_≡_, refl, sym, ap, subst, _∙_}
-use mathlib.Core.Bool.{Bool, true, false, cond, _||_}
+use mathlib.Core.Path.{_≡_, refl, sym, ap, _∙_}
+use mathlib.Core.Bool.{Bool, true, false, _||_}
 use mathlib.Core.List.{List, [], _∷_, _++_, map}
 use Prim.Native.Nat.{ℕ, suc, zero, _+_, _<_, _≤_}
 use native.Mathlib.Omega.{arith}
 use lib.ListN.{length, take, drop, getD}
 use lib.Dec.{leb}
-use Rattle.std.proofs.shelf.Tests.{false≢true, or-parts, cond-true, cond-false}
+use Rattle.std.proofs.shelf.Tests.{or-parts, cond-true, cond-false}
 use Rattle.std.proofs.shelf.Lists.{take-more, drop-more, take-all, take-append-drop}
 use Rattle.words.specs.Words.{same, among}
 use Rattle.language.specs.Graphs as graphs

@@ -1,5 +1,5 @@
 -- One word of a sentence, taken or refused.
-use mathlib.Core.Path.{_≡_, refl, sym, ap, subst, _∙_}
+use mathlib.Core.Path.{_≡_, refl, sym, ap, _∙_}
 use mathlib.Core.Bool.{Bool, true, false, _||_}
 use mathlib.Core.List.{List, [], _∷_, _++_}
 use Prim.Native.Nat.{ℕ, _<_, _^_}
@@ -8,7 +8,6 @@ use native.Mathlib.Omega.{arith}
 use borrow.Author.Differences.{ints}
 use lib.Dec.{eqb}
 use denote.Ref.{RefT}
-use Rattle.std.specs.declared.option.Option.{Option}
 use Rattle.std.specs.declared.option.Option.the-variants.{Some, None}
 use Rattle.std.proofs.shelf.Tests.{false≢true}
 use Rattle.refusal.specs.declared.Place.{Place}
@@ -17,9 +16,9 @@ use Rattle.refusal.specs.declared.Reason.the-variants.{Unexpected}
 use Rattle.refusal.specs.Reasons.{located}
 use Rattle.words.specs.Words.{Word, Next, Text}
 use Rattle.words.specs.Words.Word.{name, number, mark}
-use Rattle.words.specs.Words.Text.{ends, fails, reads}
+use Rattle.words.specs.Words.Text.{reads}
 use Rattle.words.specs.Words.Next.{word, fault, end}
-use Rattle.words.specs.Marks.{code, is}
+use Rattle.words.specs.Marks.{code}
 use Rattle.words.specs.Reader.{as-next, leads}
 use Rattle.words.specs.declared.Mark.{Mark}
 use Rattle.words.specs.declared.Mark.the-variants.{If, While, Var, Table}
@@ -30,7 +29,7 @@ use Rattle.language.specs.Expected.{Expect, one, pick, step, refusal}
 use Rattle.language.specs.Expected.Expect.{just}
 use Rattle.language.specs.Expected.Terminal.{any-name, any-number}
 use Rattle.language.specs.Readings.{first-is, first-names, begins-statement, begins-declaration, said, Anywhere, Turns-back, Unended}
-use Rattle.language.specs.Readings.Turns-back.{by-rule, by-want}
+use Rattle.language.specs.Readings.Turns-back.{by-rule}
 use Rattle.language.proofs.Passing.{unfit-word}
 use Rattle.sentences.specs.Models.{unfit, Small}
 

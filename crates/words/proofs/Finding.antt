@@ -1,8 +1,8 @@
 -- Answers of the word reader, by the first byte.
 use mathlib.Core.Path.{_≡_, refl, sym, ap, _∙_}
-use mathlib.Core.Bool.{Bool, true, false, cond}
+use mathlib.Core.Bool.{true, false}
 use mathlib.Core.List.{List, [], _∷_, _++_}
-use Prim.Native.Nat.{ℕ, suc, _≤_, _<_, _+_, _-_}
+use Prim.Native.Nat.{ℕ, suc, _≤_, _<_, _+_}
 use native.Mathlib.Omega.{arith}
 use lib.ListN.{length, drop, take, getD, length-append, length-drop}
 use lib.Dec.{leb, eqb}
@@ -16,7 +16,7 @@ use Rattle.words.specs.Words.Word.{mark}
 use Rattle.words.specs.Words.Next.{word, fault, end}
 use Rattle.words.specs.Reader.{sized, as-next, Finds, Goes, Room, leads}
 use Rattle.words.specs.declared.Found.{Found}
-use Rattle.words.specs.declared.Found.the-variants.{Sign, Fault}
+use Rattle.words.specs.declared.Found.the-variants.{Sign}
 use Rattle.refusal.specs.declared.Place.{Place}
 use Rattle.words.specs.declared.Mark.{Mark}
 use Rattle.words.proofs.Told.{no-some}

@@ -1,16 +1,16 @@
 -- Each step from word to word: parts join to the text, gaps are blanks and comments, parts are longest.
 use mathlib.Core.Path.{_≡_, refl, sym, ap, subst, _∙_}
-use mathlib.Core.Bool.{Bool, true, false, cond, not, _&&_, _||_}
+use mathlib.Core.Bool.{Bool, true, false, cond, not, _||_}
 use mathlib.Core.List.{List, [], _∷_, _++_}
-use mathlib.Core.Logic.{_⊎_, inl, inr}
-use Prim.Native.Nat.{ℕ, zero, suc, _≤_, _<_, _+_, _-_}
+use mathlib.Core.Logic.{inl, inr}
+use Prim.Native.Nat.{ℕ, _≤_}
 use native.Mathlib.Omega.{arith}
-use lib.ListN.{length, drop, length-drop}
+use lib.ListN.{length, drop}
 use lib.Dec.{eqb}
 use Rattle.std.specs.declared.option.Option.{Option}
 use Rattle.std.specs.declared.option.Option.the-variants.{Some, None}
-use Rattle.std.proofs.shelf.Tests.{eqb-true, and-parts, or-parts, or-cases, or-from, false≢true, cases-bool, cond-both}
-use Rattle.words.specs.Words.{Spelling, Part, blank, letter, digit, inner, skipped, commenting, gap, run, behind, onward, begins, symbols, symbol-in, symbol-part, part, next, letters-next, digits-next}
+use Rattle.std.proofs.shelf.Tests.{eqb-true, and-parts, false≢true, cond-both}
+use Rattle.words.specs.Words.{Spelling, Part, blank, letter, digit, inner, skipped, commenting, gap, run, behind, onward, begins, symbols, symbol-in, symbol-part, part}
 use Rattle.words.specs.Parts.{Gap, Stops, Member, Longest, taken, Steps-well}
 use Rattle.words.specs.Parts.Gap.{none, a-blank, hash, inside, line-end}
 use Rattle.refusal.specs.declared.Place.{Place}

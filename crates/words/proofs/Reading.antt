@@ -1,15 +1,14 @@
 -- The words of a text: it has exactly one list of words, which is computed.
-use mathlib.Core.Path.{_≡_, refl, sym, ap, subst, _∙_}
-use mathlib.Core.Bool.{Bool, true, false, cond, _&&_}
-use mathlib.Core.List.{List, [], _∷_, _++_}
-use Prim.Native.Nat.{ℕ, zero, suc, _≤_, _<_, _+_, _-_}
+use mathlib.Core.Path.{_≡_, refl, sym, _∙_}
+use mathlib.Core.Bool.{false}
+use mathlib.Core.List.{List, [], _∷_}
+use Prim.Native.Nat.{ℕ, zero, suc, _≤_, _<_}
 use native.Mathlib.Omega.{arith}
 use lib.ListN.{length, drop, length-drop}
-use lib.Dec.{eqb}
 use Rattle.std.specs.declared.option.Option.{Option}
-use Rattle.std.specs.declared.option.Option.the-variants.{Some, None}
-use Rattle.std.proofs.shelf.Tests.{cond-both, and-parts, eqb-true}
-use Rattle.words.specs.Words.{Word, Next, Text, Reads, Spelling, Part, Step, start, behind, letter, digit, inner, skipped, commenting, gap, run, symbols, begins, symbol-in, symbol-part, part, next, next-part, letters-next, digits-next, text-in, text}
+use Rattle.std.specs.declared.option.Option.the-variants.{Some}
+use Rattle.std.proofs.shelf.Tests.{cond-both}
+use Rattle.words.specs.Words.{Word, Next, Text, Reads, Spelling, Part, start, behind, letter, digit, gap, symbols, begins, symbol-in, symbol-part, part, next, next-part, text-in, text}
 use Rattle.words.specs.Words.Next.{word, fault, end}
 use Rattle.words.specs.Words.Text.{ends, fails, reads}
 use Rattle.words.specs.Words.Reads.{at-end, at-fault, at-word}

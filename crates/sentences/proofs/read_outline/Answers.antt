@@ -1,13 +1,5 @@
-use mathlib.Core.Path.{_≡_, refl, sym, ap, subst, _∙_}
-use mathlib.Core.List.{List, []}
-use Prim.Native.Nat.{ℕ, _≤_}
-use native.Mathlib.Omega.{arith}
-use lib.ListN.{length}
-use Rattle.std.specs.Of.Vec.{vec-items}
-use Rattle.std.specs.declared.option.Option.the-variants.{Some, None}
-use Rattle.refusal.specs.declared.Refusal.{Refusal}
+use mathlib.Core.Path.{sym, subst}
 use Rattle.language.specs.Graphs as graphs
-use Rattle.language.specs.Graphs.{finished}
 use Rattle.language.specs.Laws.{Grammar-stands, Verdicts-stand, Graphs-stand}
 use Rattle.language.specs.Readings.{Stated}
 use Rattle.language.specs.Names.Verdict.{too-long}

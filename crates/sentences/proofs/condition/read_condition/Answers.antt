@@ -1,5 +1,4 @@
-use mathlib.Core.Path.{_≡_, refl, sym, ap, subst}
-use mathlib.Core.Bool.{true, false}
+use mathlib.Core.Bool.{false}
 use mathlib.Core.List.{[], _∷_}
 use Rattle.refusal.specs.declared.Reason.the-variants.{Undeclared}
 use Rattle.language.specs.Grammar.Condition.{compares}
@@ -7,7 +6,7 @@ use Rattle.language.specs.Expected.Expect.{condition}
 use Rattle.language.specs.Readings.{Knows-asks}
 use Rattle.language.proofs.Turning.{turns, turns-at}
 use Rattle.language.proofs.Conditions.{refuses-left, left-decides, refuses-order, refuses-right, over-condition}
-use Rattle.sentences.specs.Models.{left, vars-of, tabs-of, Small-operand}
+use Rattle.sentences.specs.Models.{left, vars-of, tabs-of}
 use Rattle.sentences.proofs.Exits.{handed-on}
 use Rattle.sentences.proofs.condition.read_condition.Needs as need
 

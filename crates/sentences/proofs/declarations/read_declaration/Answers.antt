@@ -1,4 +1,4 @@
-use mathlib.Core.Path.{_≡_, refl, sym, _∙_}
+use mathlib.Core.Path.{sym, _∙_}
 use mathlib.Core.List.{_∷_}
 use Rattle.std.proofs.shelf.Results.{cases-weaker}
 use Rattle.language.specs.Expected.Expect.{heads}

@@ -1,4 +1,4 @@
-use mathlib.Core.Path.{_≡_, sym, ap, subst, _∙_}
+use mathlib.Core.Path.{sym, ap, subst, _∙_}
 use mathlib.Core.List.{List, _∷_, []}
 use Rattle.words.specs.Words.{Word}
 use Rattle.language.specs.Graphs as graphs

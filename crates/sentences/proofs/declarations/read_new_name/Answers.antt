@@ -1,8 +1,7 @@
-use mathlib.Core.Path.{_≡_, sym, subst}
+use mathlib.Core.Path.{sym, subst}
 use mathlib.Core.Bool.{Bool, true, false}
-use mathlib.Core.List.{List, [], _∷_}
+use mathlib.Core.List.{[], _∷_}
 use Rattle.refusal.specs.declared.Reason.the-variants.{DeclaredBefore, TooManyNames}
-use Rattle.words.specs.Words.{Word}
 use Rattle.language.specs.Expected.Expect.{just}
 use Rattle.language.specs.Expected.Terminal.{any-name}
 use Rattle.language.specs.Readings.{New}

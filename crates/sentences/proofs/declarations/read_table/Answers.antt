@@ -1,4 +1,4 @@
-use mathlib.Core.Path.{_≡_, refl, sym, _∙_}
+use mathlib.Core.Path.{refl, sym, _∙_}
 use mathlib.Core.List.{_∷_}
 use Rattle.std.specs.Of.Vec.{vec-items}
 use Rattle.words.specs.declared.Mark.the-variants.{Equals, OpenBracket, CloseBracket, Semicolon}

@@ -1,5 +1,5 @@
-use mathlib.Core.Path.{_≡_, refl, sym, ap, subst, _∙_}
-use mathlib.Core.Bool.{true, false}
+use mathlib.Core.Path.{_≡_, refl, sym, subst, _∙_}
+use mathlib.Core.Bool.{false}
 use mathlib.Core.List.{[], _∷_}
 use Rattle.refusal.specs.declared.Reason.the-variants.{Undeclared}
 use Rattle.words.specs.declared.Mark.the-variants.{Becomes, OpenBracket, Plus, Minus}

@@ -1,5 +1,4 @@
-use mathlib.Core.Path.{_≡_, refl, sym, ap, _∙_}
-use mathlib.Core.List.{[], _∷_}
+use mathlib.Core.Path.{_≡_, refl, sym, _∙_}
 use Rattle.std.proofs.shelf.Results.{cases-weaker}
 use lib.IntN.{pos}
 use borrow.Author.Needs.{needs}

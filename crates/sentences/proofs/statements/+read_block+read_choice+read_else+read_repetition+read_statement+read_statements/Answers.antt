@@ -1,16 +1,14 @@
-use mathlib.Core.Path.{_≡_, refl, sym, ap, subst, _∙_}
-use mathlib.Core.Bool.{Bool, true, false, _||_}
+use mathlib.Core.Path.{_≡_, sym, ap, subst, _∙_}
 use mathlib.Core.List.{[], _∷_}
 use Prim.Native.Nat.{ℕ, suc, _-_}
 use native.Mathlib.Omega.{arith}
 use Rattle.std.proofs.shelf.Results.{cases-weaker}
 use Rattle.refusal.specs.declared.Reason.the-variants.{TooDeep}
-use Rattle.words.specs.declared.Mark.the-variants.{CloseBrace, Else, If, While}
+use Rattle.words.specs.declared.Mark.the-variants.{CloseBrace, Else}
 use Rattle.language.specs.Expected.{one}
 use Rattle.language.specs.Expected.Expect.{body, condition, block, else-part}
-use Rattle.language.specs.Graphs.{fresh, stand, back, holds, fails, var-number}
-use Rattle.language.specs.declared.Action.the-variants.{Skip}
-use Rattle.language.specs.Readings.{Turns-back, Starts, Inner, Blocked}
+use Rattle.language.specs.Graphs.{fresh, stand, holds, fails, var-number}
+use Rattle.language.specs.Readings.{Turns-back, Inner, Blocked}
 use Rattle.language.specs.Readings.Turns-back.{by-want}
 use Rattle.language.proofs.Turning.{turns, turns-at}
 use Rattle.language.proofs.Steps.{block-brace}

@@ -1,7 +1,6 @@
-use mathlib.Core.Path.{_≡_, refl, sym, ap, _∙_}
-use mathlib.Core.Bool.{true, false}
-use mathlib.Core.List.{[], _∷_}
-use Prim.Native.Nat.{ℕ}
+use mathlib.Core.Path.{_∙_}
+use mathlib.Core.Bool.{false}
+use mathlib.Core.List.{_∷_}
 use Rattle.std.proofs.shelf.Results.{cases-weaker}
 use Rattle.refusal.specs.declared.Reason.the-variants.{Undeclared}
 use Rattle.words.specs.declared.Mark.the-variants.{Becomes, Semicolon}
@@ -12,8 +11,7 @@ use Rattle.language.specs.Readings.{Starts, assigning}
 use Rattle.language.specs.Readings.Turns-back.{by-want}
 use Rattle.language.proofs.Turning.{turns, turns-at}
 use Rattle.language.proofs.Bodies.{target-decides, refuses-becomes, refuses-side, refuses-semicolon, stated-assign}
-use Rattle.sentences.specs.Models.{left, vars-of, tabs-of, drawn-so, assigned}
-use Rattle.sentences.specs.declared.side.Side.{Side}
+use Rattle.sentences.specs.Models.{vars-of, tabs-of}
 use Rattle.sentences.proofs.Exits.{handed-on}
 use Rattle.sentences.proofs.Siding.{assigned-as}
 use Rattle.sentences.proofs.statements.read_assignment.Needs as need

@@ -1,13 +1,13 @@
-use mathlib.Core.Path.{_≡_, refl, sym, ap, subst, _∙_}
+use mathlib.Core.Path.{_≡_, sym, ap, subst, _∙_}
 use mathlib.Core.List.{List, []}
-use Prim.Native.Nat.{ℕ, _+_, _-_, _<_, _≤_}
+use Prim.Native.Nat.{ℕ, _+_, _-_, _≤_}
 use native.Mathlib.Omega.{arith}
 use lib.ListN.{length, take, drop, getD}
 use lib.Dec.{ltb}
-use Rattle.std.specs.Of.Vec.{vec-items, vec-len}
-use Rattle.std.proofs.shelf.Tests.{cond-true, cond-false, lt-ltb, le-ltb}
+use Rattle.std.specs.Of.Vec.{vec-items}
+use Rattle.std.proofs.shelf.Tests.{cond-true, lt-ltb}
 use Rattle.language.specs.declared.Edge.{Edge}
-use Rattle.reader.specs.Grouping.{incoming, grouped, offsets}
+use Rattle.reader.specs.Grouping.{incoming, grouped}
 use Rattle.reader.proofs.Grouped.{offsets-length, offset-at, part-starts, part-ends, part-is}
 use Rattle.reader.proofs.graph.Graph.incoming.Needs as need
 

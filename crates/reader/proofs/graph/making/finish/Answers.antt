@@ -1,8 +1,6 @@
-use mathlib.Core.Path.{_≡_, refl, sym, ap, subst, _∙_}
-use mathlib.Core.Bool.{true}
-use mathlib.Core.List.{List, map}
+use mathlib.Core.Path.{_≡_, sym, ap, subst, _∙_}
+use mathlib.Core.List.{map}
 use Prim.Native.Nat.{ℕ, _≤_, _<_}
-use native.Mathlib.Omega.{arith}
 use lib.ListN.{length}
 use Rattle.std.specs.Of.Vec.{vec-items, vec-len}
 use Rattle.language.specs.Graphs as graphs
@@ -11,7 +9,7 @@ use Rattle.language.specs.declared.Edge.{Edge}
 use Rattle.language.specs.declared.Lookup.{Lookup}
 use Rattle.language.proofs.Verdicts.{drawn-well}
 use Rattle.sentences.specs.Models.{variable-of, table-of}
-use Rattle.reader.specs.Grouping.{all, edge-fits, lookup-fits, grouped, offsets}
+use Rattle.reader.specs.Grouping.{grouped, offsets}
 use Rattle.sentences.proofs.Naming.{length-of}
 use Rattle.reader.proofs.Grouped.{made-ends, edges-fit, lookups-fit}
 use Rattle.reader.proofs.graph.making.finish.Needs as need

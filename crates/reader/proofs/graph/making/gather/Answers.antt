@@ -1,5 +1,5 @@
-use mathlib.Core.Path.{_≡_, refl, sym, ap, _∙_}
-use mathlib.Core.List.{List, _++_}
+use mathlib.Core.Path.{refl, ap, _∙_}
+use mathlib.Core.List.{_++_}
 use lib.ListN.{drop}
 use Prim.Native.Nat.{_+_}
 use Rattle.std.specs.Of.Vec.{vec-items}

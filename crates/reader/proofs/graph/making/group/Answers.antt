@@ -1,10 +1,9 @@
-use mathlib.Core.Path.{_≡_, refl, sym, ap, subst, _∙_}
-use mathlib.Core.List.{List, [], _∷_, _++_}
+use mathlib.Core.Path.{_≡_, ap, _∙_}
+use mathlib.Core.List.{[], _∷_, _++_}
 use Prim.Native.Nat.{ℕ, _+_}
 use native.Mathlib.Omega.{arith}
 use lib.ListN.{length}
 use Rattle.std.specs.Of.Vec.{vec-items}
-use Rattle.language.specs.declared.Edge.{Edge}
 use Rattle.reader.specs.Grouping.{grouped, offsets}
 use Rattle.reader.proofs.Grouped.{grouped-more, offsets-more}
 use Rattle.reader.proofs.graph.making.group.Needs as need

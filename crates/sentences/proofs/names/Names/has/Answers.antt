@@ -1,8 +1,8 @@
-use mathlib.Core.Path.{_≡_, sym, ap, _∙_}
+use mathlib.Core.Path.{sym, ap, _∙_}
 use mathlib.Core.Bool.{Bool, _||_}
 use Rattle.words.specs.Words.{among}
-use Rattle.language.specs.Graphs.{var-names, table-names}
-use Rattle.sentences.specs.Models.{vars-of, tabs-of}
+use Rattle.language.specs.Graphs.{table-names}
+use Rattle.sentences.specs.Models.{tabs-of}
 use Rattle.sentences.proofs.Naming.{names-of-vars, names-of-tables, is-there}
 use Rattle.sentences.proofs.names.Names.has.Needs as need
 

@@ -1,6 +1,5 @@
 use mathlib.Core.Path.{sym, ap}
 use Rattle.language.specs.Graphs as graphs
-use Rattle.sentences.specs.Models.{tabs-of, table-of}
 use Rattle.sentences.specs.declared.Table.{Table}
 use Rattle.sentences.proofs.Naming.{table-at, table-none}
 use Rattle.sentences.proofs.names.Names.shape.Needs as need

@@ -1,8 +1,5 @@
-use mathlib.Core.Path.{_≡_, refl, sym, ap, _∙_}
+use mathlib.Core.Path.{sym}
 use mathlib.Core.List.{[], _∷_}
-use Rattle.words.specs.Words.{Text}
-use Rattle.words.specs.Reader.{as-next, leads}
-use Rattle.words.specs.declared.Found.{Found}
 use Rattle.words.specs.declared.Found.the-variants.{Sign}
 use Rattle.language.specs.Expected.{one}
 use Rattle.sentences.specs.Models.{left}
