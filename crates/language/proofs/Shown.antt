@@ -16,7 +16,7 @@ use Rattle.language.specs.Grammar.Script.{script}
 use Rattle.language.specs.Names.{Verdict}
 use Rattle.language.specs.Names.Outcome.{drawn}
 use Rattle.language.specs.Names.Verdict.{fine}
-use Rattle.language.specs.Examples.{Examples, Refuses, at, counting, counting-graph, looking-up, looking-up-graph, choosing, choosing-graph}
+use Rattle.language.specs.Examples.{Examples, at, counting, counting-graph, looking-up, looking-up-graph, choosing, choosing-graph}
 use Rattle.words.proofs.Reading.{reads-text}
 use Rattle.language.specs.Rules.{words}
 use Rattle.language.proofs.Verdicts.{passes-with, refused-at}
@@ -46,69 +46,24 @@ choosing-drawn : Verdict choosing (drawn choosing-graph)
 unfolding choosing-script
 choosing-drawn = fine (lit≤ tt) (reads-text choosing) (passes-with (text choosing) (choosing-script .0) (choosing-script .1) refl) (lit≤ tt)
 
-no-word : Refuses (codes "var i = 0..3;\ni := i $ 1;") 2 (at 2 8)
-no-word = refused-at (codes "var i = 0..3;\ni := i $ 1;") 2 (at 2 8) (lit≤ tt) refl
-
-large-number : Refuses (codes "var i = 0..2147483648;") 3 (at 1 12)
-large-number = refused-at (codes "var i = 0..2147483648;") 3 (at 1 12) (lit≤ tt) refl
-
-long-name : Refuses (codes "var i = 0..1;\nabcdefghijklmnopq := 1;") 4 (at 2 1)
-long-name = refused-at (codes "var i = 0..1;\nabcdefghijklmnopq := 1;") 4 (at 2 1) (lit≤ tt) refl
-
-unfit-word : Refuses (codes "var i = 0..3;\ni = 3;") 5 (at 2 3)
-unfit-word = refused-at (codes "var i = 0..3;\ni = 3;") 5 (at 2 3) (lit≤ tt) refl
-
-early-end : Refuses (codes "var i = 0..3;\nif i < 1 {\n  i := 2;") 5 (at 3 10)
-early-end = refused-at (codes "var i = 0..3;\nif i < 1 {\n  i := 2;") 5 (at 3 10) (lit≤ tt) refl
-
-end-after-line : Refuses (codes "var i = 0..3\n") 5 (at 2 1)
-end-after-line = refused-at (codes "var i = 0..3\n") 5 (at 2 1) (lit≤ tt) refl
-
-ninth-level : Refuses (codes "var i = 0..3;\nwhile i<1{while i<1{while i<1{while i<1{while i<1{while i<1{while i<1{while i<1{\nwhile i<1{") 6 (at 3 10)
-ninth-level = refused-at (codes "var i = 0..3;\nwhile i<1{while i<1{while i<1{while i<1{while i<1{while i<1{while i<1{while i<1{\nwhile i<1{") 6 (at 3 10) (lit≤ tt) refl
-
-declared-before : Refuses (codes "var i = 0..3;\ntable i[4] = 0..1;") 7 (at 2 7)
-declared-before = refused-at (codes "var i = 0..3;\ntable i[4] = 0..1;") 7 (at 2 7) (lit≤ tt) refl
-
-undeclared : Refuses (codes "var i = 0..3;\ni := cal[i];") 8 (at 2 6)
-undeclared = refused-at (codes "var i = 0..3;\ni := cal[i];") 8 (at 2 6) (lit≤ tt) refl
-
-wrong-sort : Refuses (codes "table t[2] = 0..1;\nvar i = 0..3;\ni := t $") 8 (at 3 6)
-wrong-sort = refused-at (codes "table t[2] = 0..1;\nvar i = 0..3;\ni := t $") 8 (at 3 6) (lit≤ tt) refl
-
-falling-range : Refuses (codes "var i = 3..-5;") 9 (at 1 13)
-falling-range = refused-at (codes "var i = 3..-5;") 9 (at 1 13) (lit≤ tt) refl
-
-size-zero : Refuses (codes "table t[0] = 0..1;") 10 (at 1 9)
-size-zero = refused-at (codes "table t[0] = 0..1;") 10 (at 1 9) (lit≤ tt) refl
-
-large-size : Refuses (codes "table t[65537] = 0..1;") 10 (at 1 9)
-large-size = refused-at (codes "table t[65537] = 0..1;") 10 (at 1 9) (lit≤ tt) refl
-
-name-twice : Refuses (codes "var i = 0..3;\nif i < i { }") 11 (at 2 8)
-name-twice = refused-at (codes "var i = 0..3;\nif i < i { }") 11 (at 2 8) (lit≤ tt) refl
-
-ninth-variable : Refuses (codes "var a=0..0;var b=0..0;var c=0..0;var d=0..0;var e=0..0;var f=0..0;var g=0..0;var h=0..0;\nvar i=0..0;") 12 (at 2 5)
-ninth-variable = refused-at (codes "var a=0..0;var b=0..0;var c=0..0;var d=0..0;var e=0..0;var f=0..0;var g=0..0;var h=0..0;\nvar i=0..0;") 12 (at 2 5) (lit≤ tt) refl
-
 pub examples : Examples
 examples = record {
   counts = counting-drawn;
   looks-up = looking-up-drawn;
   chooses = choosing-drawn;
-  no-word = no-word;
-  large-number = large-number;
-  long-name = long-name;
-  unfit-word = unfit-word;
-  early-end = early-end;
-  end-after-line = end-after-line;
-  ninth-level = ninth-level;
-  declared-before = declared-before;
-  undeclared = undeclared;
-  wrong-sort = wrong-sort;
-  falling-range = falling-range;
-  size-zero = size-zero;
-  large-size = large-size;
-  name-twice = name-twice;
-  ninth-variable = ninth-variable;
+  no-word = refused-at (codes "var i = 0..3;\ni := i $ 1;") 2 (at 2 8) (lit≤ tt) refl;
+  large-number = refused-at (codes "var i = 0..2147483648;") 3 (at 1 12) (lit≤ tt) refl;
+  long-name = refused-at (codes "var i = 0..1;\nabcdefghijklmnopq := 1;") 4 (at 2 1) (lit≤ tt) refl;
+  unfit-word = refused-at (codes "var i = 0..3;\ni = 3;") 5 (at 2 3) (lit≤ tt) refl;
+  early-end = refused-at (codes "var i = 0..3;\nif i < 1 {\n  i := 2;") 5 (at 3 10) (lit≤ tt) refl;
+  end-after-line = refused-at (codes "var i = 0..3\n") 5 (at 2 1) (lit≤ tt) refl;
+  ninth-level = refused-at (codes "var i = 0..3;\nwhile i<1{while i<1{while i<1{while i<1{while i<1{while i<1{while i<1{while i<1{\nwhile i<1{") 6 (at 3 10) (lit≤ tt) refl;
+  declared-before = refused-at (codes "var i = 0..3;\ntable i[4] = 0..1;") 7 (at 2 7) (lit≤ tt) refl;
+  undeclared = refused-at (codes "var i = 0..3;\ni := cal[i];") 8 (at 2 6) (lit≤ tt) refl;
+  wrong-sort = refused-at (codes "table t[2] = 0..1;\nvar i = 0..3;\ni := t $") 8 (at 3 6) (lit≤ tt) refl;
+  falling-range = refused-at (codes "var i = 3..-5;") 9 (at 1 13) (lit≤ tt) refl;
+  size-zero = refused-at (codes "table t[0] = 0..1;") 10 (at 1 9) (lit≤ tt) refl;
+  large-size = refused-at (codes "table t[65537] = 0..1;") 10 (at 1 9) (lit≤ tt) refl;
+  name-twice = refused-at (codes "var i = 0..3;\nif i < i { }") 11 (at 2 8) (lit≤ tt) refl;
+  ninth-variable = refused-at (codes "var a=0..0;var b=0..0;var c=0..0;var d=0..0;var e=0..0;var f=0..0;var g=0..0;var h=0..0;\nvar i=0..0;") 12 (at 2 5) (lit≤ tt) refl;
 }
