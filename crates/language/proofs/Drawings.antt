@@ -28,15 +28,15 @@ use Rattle.language.specs.declared.Action.the-variants.{Skip}
 use Rattle.language.specs.declared.Edge.{Edge}
 use Rattle.language.specs.declared.Lookup.{Lookup}
 
-each-snoc : {A : Type 0} (P : A → Type 0) (l : List A) (x : A) → Each P l → P x → Each P (l ++ (x ∷ []))
+pub each-snoc : {A : Type 0} (P : A → Type 0) (l : List A) (x : A) → Each P l → P x → Each P (l ++ (x ∷ []))
 each-snoc P [] x h p = (p, tt)
 each-snoc P (y ∷ l) x h p = (h .0, each-snoc P l x (h .1) p)
 
-each-map : {A : Type 0} (P Q : A → Type 0) → ((x : A) → P x → Q x) → (l : List A) → Each P l → Each Q l
+pub each-map : {A : Type 0} (P Q : A → Type 0) → ((x : A) → P x → Q x) → (l : List A) → Each P l → Each Q l
 each-map P Q f [] h = tt
 each-map P Q f (y ∷ l) h = (f y (h .0), each-map P Q f l (h .1))
 
-made-some : {es : List Edge} {n : ℕ} → Made es n → 0 < n
+pub made-some : {es : List Edge} {n : ℕ} → Made es n → 0 < n
 made-some none = omega arith
 made-some (next e m s t) = omega arith
 made-some (again e m s t u) = omega arith

@@ -18,6 +18,7 @@ use Rattle.language.specs.declared.Action.the-variants.{Skip, Any, Read, Shift,
 use Rattle.language.specs.declared.Edge.{Edge}
 use Rattle.language.specs.declared.Lookup.{Lookup}
 use Rattle.reader.specs.Grouping.{all, names-below, edge-fits, lookup-fits, incoming, grouped, offsets}
+use Rattle.language.proofs.Drawings.{each-snoc, each-map, made-some}
 
 nil : {A : Type 0} (xs : List A) → xs ++ [] ≡ xs
 nil [] = refl
@@ -134,23 +135,10 @@ all-each P f g (x ∷ xs) h = and-from (f x) (all f xs) (g x (h .0)) (all-each P
 abbrev ends-fit : ℕ → Edge → Type 0
 ends-fit n e = (e .source < n) × (e .target < n) × (0 < e .target)
 
-each-snoc : {A : Type 0} (P : A → Type 0) (xs : List A) (x : A) → Each P xs → P x → Each P (xs ++ (x ∷ []))
-each-snoc P [] x h p = (p, tt)
-each-snoc P (y ∷ xs) x h p = (h .0, each-snoc P xs x (h .1) p)
-
-each-map : {A : Type 0} (P Q : A → Type 0) → ((x : A) → P x → Q x) → (xs : List A) → Each P xs → Each Q xs
-each-map P Q f [] h = tt
-each-map P Q f (x ∷ xs) h = (f x (h .0), each-map P Q f xs (h .1))
-
-made-positive : {es : List Edge} {n : ℕ} → Made es n → 0 < n
-made-positive none = omega arith
-made-positive (next e m s t) = omega arith
-made-positive (again e m s t u) = omega arith
-
 pub made-ends : {es : List Edge} {n : ℕ} → Made es n → Each (ends-fit n) es
 made-ends none = tt
 made-ends (next {es = es} {n = n} e m s t) =
-    let z = made-positive m in
+    let z = made-some m in
     each-snoc (ends-fit (suc n)) es e (each-map (ends-fit n) (ends-fit (suc n)) (λ x h. let a = h .0 in let b = h .1 in (omega arith, omega arith, h .2)) es (made-ends m)) (omega arith, omega arith, omega arith)
 made-ends (again {es = es} {n = n} e m s t u) = each-snoc (ends-fit n) es e (made-ends m) (s, u, t)
 
