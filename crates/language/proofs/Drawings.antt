@@ -49,11 +49,11 @@ number-below n (m ∷ ms) h = go (same n m) h (number-below n ms)
     go true e ih = omega arith
     go false e ih = let k = ih e in omega arith
 
-length-vars : (vs : List Variable) → length (var-names vs) ≡ length vs
+pub length-vars : (vs : List Variable) → length (var-names vs) ≡ length vs
 length-vars [] = refl
 length-vars (v ∷ vs) = ap suc (length-vars vs)
 
-length-tables : (ts : List Table) → length (table-names ts) ≡ length ts
+pub length-tables : (ts : List Table) → length (table-names ts) ≡ length ts
 length-tables [] = refl
 length-tables (t ∷ ts) = ap suc (length-tables ts)
 

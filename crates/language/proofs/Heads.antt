@@ -1,8 +1,8 @@
 -- Declarations, passed or refused.
 use mathlib.Core.Path.{_≡_, refl, sym, ap, subst, _∙_}
 use mathlib.Core.Bool.{Bool, true, false, cond, _||_}
-use mathlib.Core.List.{List, [], _∷_, _++_, append-assoc}
-use Prim.Native.Nat.{ℕ, suc, _+_, _<_}
+use mathlib.Core.List.{List, [], _∷_, _++_, append-assoc, append-nil}
+use Prim.Native.Nat.{ℕ, _+_, _<_}
 use native.Mathlib.Omega.{arith}
 use lib.Dec.{leb, ltb, eqb}
 use lib.ListN.{length, length-append}
@@ -28,6 +28,7 @@ use Rattle.language.specs.Readings.New.{new-variable, new-table}
 use Rattle.language.specs.Readings.Boundary.{at-start, behind-semicolon}
 use Rattle.language.proofs.Passing.{pass-word, broken-word, decided-word}
 use Rattle.language.proofs.Steps.{before-++, passed-++, words-before, first-mark}
+use Rattle.language.proofs.Drawings.{length-vars, length-tables}
 
 -- none, and one more
 pub declared-none : (t : Text) → Declared [] [] t t
@@ -88,18 +89,6 @@ table-names-snoc : (ts : List a-table) (t : a-table) → table-names (ts ++ (t �
 table-names-snoc [] t = refl
 table-names-snoc (u ∷ ts) t = ap (λ (z : List (List ℕ)). u .name ∷ z) (table-names-snoc ts t)
 
-nil : (ns : List (List ℕ)) → ns ++ [] ≡ ns
-nil [] = refl
-nil (n ∷ ns) = ap (λ (z : List (List ℕ)). n ∷ z) (nil ns)
-
-length-var-names : (vs : List Variable) → length (var-names vs) ≡ length vs
-length-var-names [] = refl
-length-var-names (v ∷ vs) = ap suc (length-var-names vs)
-
-length-table-names : (ts : List a-table) → length (table-names ts) ≡ length ts
-length-table-names [] = refl
-length-table-names (t ∷ ts) = ap suc (length-table-names ts)
-
 abbrev at-new : Bool → Bool → ℕ
 at-new known many = cond known 7 (cond many 12 0)
 
@@ -125,11 +114,11 @@ module _ (vs : List Variable) (ts : List a-table) where
       ap (λ (b : Bool). at-new (among n (names-behind Var past) || among n (names-behind Table past)) b) (or-false (leb 8 (length (names-behind Var past)))) ∙
       ap (λ (a : List (List ℕ)). at-new (among n a || among n (names-behind Table past)) (leb 8 (length a))) (y .vars) ∙
       ap (λ (a : List (List ℕ)). at-new (among n (var-names vs) || among n a) (leb 8 (length (var-names vs)))) (y .tabs) ∙
-      ap (at-new (among n (var-names vs) || among n (table-names ts))) (ap (leb 8) (length-var-names vs) ∙ i)
+      ap (at-new (among n (var-names vs) || among n (table-names ts))) (ap (leb 8) (length-vars vs) ∙ i)
   new-rule full (new-table {past = past} y i) n p b =
       ap (λ (a : List (List ℕ)). at-new (among n a || among n (names-behind Table past)) (leb 8 (length (names-behind Table past)))) (y .vars) ∙
       ap (λ (a : List (List ℕ)). at-new (among n (var-names vs) || among n a) (leb 8 (length a))) (y .tabs) ∙
-      ap (at-new (among n (var-names vs) || among n (table-names ts))) (ap (leb 8) (length-table-names ts) ∙ i)
+      ap (at-new (among n (var-names vs) || among n (table-names ts))) (ap (leb 8) (length-tables ts) ∙ i)
 
   pub new-decides : (known full : Bool) (n : List ℕ) (p : Place) (t t₁ : Text) → t ≡ reads (name n p) t₁ → (among n (var-names vs) || among n (table-names ts)) ≡ known →
       (k : List Expect) (past : List Word) → New vs ts full past →
@@ -179,17 +168,13 @@ module _ (vs : List Variable) (ts : List a-table) where
                   derived = λ r₀ r rest d. rw append-assoc (var-decl (o .derived (mark Semicolon s ∷ r₀)) d);
                   some = omega arith;
                   vars = a;
-                  tabs = b ∙ sym (nil-tables ts);
+                  tabs = b ∙ sym (append-nil ts);
                   stays = λ past y. rw passed-++ (over past y);
                   goes = λ k past y.
                       heads-varying t k past (ap (first-is Var) e) ∙ behind-range (heads ∷ k) past y ∙ ap (refusal (one Semicolon ∷ heads ∷ k) (passed ws (mark Equals q ∷ name n p ∷ mark Var v ∷ past))) j ∙
                       ap (λ (z : List Word). refusal (heads ∷ k) z t₅) (sym (passed-++ ws (mark Semicolon s ∷ []) (mark Equals q ∷ name n p ∷ mark Var v ∷ past)));
                 }
               where
-                nil-tables : (xs : List a-table) → xs ++ [] ≡ xs
-                nil-tables [] = refl
-                nil-tables (x ∷ xs) = ap (λ (z : List a-table). x ∷ z) (nil-tables xs)
-
                 over : (past : List Word) → Starts vs ts 8 past → Starts vs₂ ts₂ 8 (mark Semicolon s ∷ passed (o .words) (mark Equals q ∷ name n p ∷ mark Var v ∷ past))
                 over past y =
                     let w = o .alike (mark Equals q ∷ name n p ∷ mark Var v ∷ past) (quiet-equals _ q) in
@@ -197,7 +182,7 @@ module _ (vs : List Variable) (ts : List a-table) where
                       boundary = behind-semicolon;
                       known = record {
                         vars = w .vars ∙ ap (λ (z : List (List ℕ)). z ++ (n ∷ [])) (y .known .vars) ∙ sym (ap var-names a ∙ var-names-snoc vs (record { name = n; range = g₂ }));
-                        tabs = w .tabs ∙ nil (names-behind Table past) ∙ y .known .tabs ∙ ap table-names (sym b);
+                        tabs = w .tabs ∙ append-nil (names-behind Table past) ∙ y .known .tabs ∙ ap table-names (sym b);
                       };
                       deep = ap (λ (z : ℕ). z + 8) (w .lev) ∙ y .deep;
                     }
@@ -278,7 +263,7 @@ module _ (vs : List Variable) (ts : List a-table) where
                           declaration = table n c g₂;
                           derived = λ r₀ r rest h₂. rw append-assoc (table-decl (o .derived (mark Semicolon s ∷ r₀)) h₂);
                           some = omega arith;
-                          vars = b ∙ sym (nil-variables vs);
+                          vars = b ∙ sym (append-nil vs);
                           tabs = a;
                           stays = λ past y. rw passed-++ (over past y);
                           goes = λ k past y.
@@ -286,17 +271,13 @@ module _ (vs : List Variable) (ts : List a-table) where
                               ap (λ (z₂ : List Word). refusal (heads ∷ k) z₂ t₈) (sym (passed-++ ws (mark Semicolon s ∷ []) (so-far past)));
                         }
                       where
-                        nil-variables : (xs : List Variable) → xs ++ [] ≡ xs
-                        nil-variables [] = refl
-                        nil-variables (y ∷ xs) = ap (λ (z₂ : List Variable). y ∷ z₂) (nil-variables xs)
-
                         over : (past : List Word) → Starts vs ts 8 past → Starts vs₂ ts₂ 8 (mark Semicolon s ∷ passed (o .words) (so-far past))
                         over past y =
                             let w₂ = o .alike (so-far past) (quiet-equals _ z) in
                             record {
                               boundary = behind-semicolon;
                               known = record {
-                                vars = w₂ .vars ∙ nil (names-behind Var past) ∙ y .known .vars ∙ ap var-names (sym b);
+                                vars = w₂ .vars ∙ append-nil (names-behind Var past) ∙ y .known .vars ∙ ap var-names (sym b);
                                 tabs = w₂ .tabs ∙ ap (λ (z₂ : List (List ℕ)). z₂ ++ (n ∷ [])) (y .known .tabs) ∙ sym (ap table-names a ∙ table-names-snoc ts (record { name = n; size = c; range = g₂ }));
                               };
                               deep = ap (λ (z₂ : ℕ). z₂ + 8) (w₂ .lev) ∙ y .deep;

@@ -1,7 +1,7 @@
 -- A text passes exactly if it is the script of a tree that keeps the rules.
 use mathlib.Core.Path.{_≡_, refl, sym, ap, _∙_}
 use mathlib.Core.Bool.{Bool, true, false, not, cond, _||_}
-use mathlib.Core.List.{List, [], _∷_, _++_, append-assoc}
+use mathlib.Core.List.{List, [], _∷_, _++_, append-assoc, append-nil}
 use Prim.Native.Nat.{ℕ, suc, _≤_, _<_}
 use native.Mathlib.Omega.{arith}
 use lib.ListN.{length}
@@ -35,7 +35,7 @@ use Rattle.language.specs.Readings.Orders.{less-than, at-most-than, greater-th
 use Rattle.language.specs.Readings.Compares.{comparing}
 use Rattle.language.specs.Readings.Asks.{behind-if, behind-while}
 use Rattle.language.specs.Readings.Boundary.{at-start, behind-semicolon, behind-open, behind-close}
-use Rattle.language.proofs.Steps.{nil, alike-name}
+use Rattle.language.proofs.Steps.{alike-name}
 use Rattle.language.proofs.Pasts.{quiet-rule, quiet-signed, order-rule, order-alike, compares-rule, compares-alike, compares-quiet, asks-rule, asks-alike, boundary-rule, boundary-alike}
 
 abbrev bracket-in : List Word → Bool
@@ -320,7 +320,7 @@ keep-sized c h k = or-from (eqb c 0) (ltb 65536 c) (ne-eqb c 0 (λ e. omega arit
 k-heads : {ws r : List Word} {ds : List Declaration} → Heads ws r ds → {vs ts : List (List ℕ)} {past : List Word} → Fresh vs ts 0 past →
     Going past (Fresh (vs ++ var-names (variables ds)) (ts ++ table-names (tables ds)) 0) ws r (Heads-keep vs ts ds)
 k-heads no-decl {vs} {ts} {past} f =
-    record { past′ = past; so = (f .0, (f .1 .0 ∙ sym (nil vs), f .1 .1 ∙ sym (nil ts), f .1 .2)); there = λ k. (tt, k); back = λ h k. k }
+    record { past′ = past; so = (f .0, (f .1 .0 ∙ sym (append-nil vs), f .1 .1 ∙ sym (append-nil ts), f .1 .2)); there = λ k. (tt, k); back = λ h k. k }
 k-heads (var-decl {n = n} {p = p} {q = q} {e = e} {s = s} {ds = ds} range rest) {vs} {ts} {past} f =
     let V = names-behind Var past in
     let W = names-behind Table past in
@@ -328,7 +328,7 @@ k-heads (var-decl {n = n} {p = p} {q = q} {e = e} {s = s} {ds = ds} range rest) 
     let w : W ≡ ts = f .1 .1 in
     let size = ap length v in
     let full = leb 8 (length V) in
-    let a : At (vs ++ (n ∷ [])) ts 0 (name n q ∷ mark Var p ∷ past) = (ap (λ (z : List (List ℕ)). z ++ (n ∷ [])) v, nil W ∙ w, f .1 .2) in
+    let a : At (vs ++ (n ∷ [])) ts 0 (name n q ∷ mark Var p ∷ past) = (ap (λ (z : List (List ℕ)). z ++ (n ∷ [])) v, append-nil W ∙ w, f .1 .2) in
     let x = k-span range {past = mark Equals e ∷ name n q ∷ mark Var p ∷ past} (record { minus = refl; dots = refl; bracket = refl }) a in
     let y = k-heads rest {past = mark Semicolon s ∷ x .past′} (behind-semicolon, x .so) in
     record {
@@ -355,7 +355,7 @@ k-heads (table-decl {n = n} {c = c} {p = p} {q = q} {o = o} {u = u} {x = b} {e =
     let w : W ≡ ts = f .1 .1 in
     let size = ap length w in
     let full = leb 8 (length W) in
-    let a : At vs (ts ++ (n ∷ [])) 0 (name n q ∷ mark Table p ∷ past) = (nil V ∙ v, ap (λ (z : List (List ℕ)). z ++ (n ∷ [])) w, f .1 .2) in
+    let a : At vs (ts ++ (n ∷ [])) 0 (name n q ∷ mark Table p ∷ past) = (append-nil V ∙ v, ap (λ (z : List (List ℕ)). z ++ (n ∷ [])) w, f .1 .2) in
     let x = k-span range {past = mark Equals e ∷ mark CloseBracket b ∷ number c u ∷ mark OpenBracket o ∷ name n q ∷ mark Table p ∷ past} (record { minus = refl; dots = refl; bracket = refl }) a in
     let y = k-heads rest {past = mark Semicolon s ∷ x .past′} (behind-semicolon, x .so) in
     record {

@@ -1,7 +1,7 @@
 -- What is expected agrees with the grammar.
 use mathlib.Core.Path.{_≡_, refl, sym, ap, subst, _∙_}
 use mathlib.Core.Bool.{Bool, true, false, cond}
-use mathlib.Core.List.{List, [], _∷_, _++_}
+use mathlib.Core.List.{List, [], _∷_, _++_, append-nil}
 use Prim.Native.Nat.{ℕ}
 use Rattle.std.specs.declared.option.Option.{Option}
 use Rattle.std.specs.declared.option.Option.the-variants.{Some, None}
@@ -255,10 +255,6 @@ from-all ws (item (i-heads h) (item (i-body b) nothing)) = (_, script h b)
 complete-all : (k : List Expect) → complete k ≡ true → All k []
 complete-all [] c = nothing
 complete-all (e ∷ k) c = let h = and-parts (optional e) (complete k) c in item (optional-item e (h .0) []) (complete-all k (h .1))
-
-append-nil : (ws : List Word) → ws ++ [] ≡ ws
-append-nil [] = refl
-append-nil (w ∷ ws) = ap (λ (z : List Word). w ∷ z) (append-nil ws)
 
 -- words that leave k to come begin a script
 pub steps-begins : (ws : List Word) (k : List Expect) → steps (Some at-first) ws ≡ Some k → Begins ws

@@ -1,7 +1,7 @@
 -- Words passed in turn, and words that are expected in the same way.
 use mathlib.Core.Path.{_≡_, refl, sym, ap, _∙_}
 use mathlib.Core.Bool.{Bool, true, false, cond, _&&_, _||_}
-use mathlib.Core.List.{List, [], _∷_, _++_}
+use mathlib.Core.List.{List, [], _∷_, _++_, append-nil}
 use Prim.Native.Nat.{ℕ}
 use Rattle.std.specs.declared.option.Option.{Option}
 use Rattle.std.specs.declared.option.Option.the-variants.{Some, None}
@@ -189,12 +189,8 @@ condition-name k past t = same-step (condition ∷ k) (just any-name ∷ operato
     at (mark m p) = refl
 
 -- Names and levels behind more words.
-pub nil : (ns : List (List ℕ)) → ns ++ [] ≡ ns
-nil [] = refl
-nil (n ∷ ns) = ap (λ (z : List (List ℕ)). n ∷ z) (nil ns)
-
 unnamed : (m : Mark) (n : List ℕ) (p : Place) (past : List Word) → follows m past ≡ false → names-behind m (name n p ∷ past) ≡ names-behind m past
-unnamed m n p past e = ap (λ (b : Bool). names-behind m past ++ cond b (n ∷ []) []) e ∙ nil (names-behind m past)
+unnamed m n p past e = ap (λ (b : Bool). names-behind m past ++ cond b (n ∷ []) []) e ∙ append-nil (names-behind m past)
 
 pub alike-name : (n : List ℕ) (p : Place) (past : List Word) → follows Var past ≡ false → follows Table past ≡ false → Alike (name n p ∷ past) past
 alike-name n p past e f = record { vars = unnamed Var n p past e; tabs = unnamed Table n p past f; lev = refl }

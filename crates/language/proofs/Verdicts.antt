@@ -1,7 +1,7 @@
 -- Each text has exactly one verdict, and it is computed.
 use mathlib.Core.Path.{_≡_, refl, sym, ap, subst, _∙_}
 use mathlib.Core.Bool.{Bool, true, false, cond}
-use mathlib.Core.List.{List, [], _∷_, _++_}
+use mathlib.Core.List.{List, [], _∷_, _++_, append-nil}
 use Prim.Native.Nat.{ℕ, zero, suc, _≤_, _<_, _+_}
 use native.Mathlib.Omega.{arith}
 use lib.ListN.{length, length-append}
@@ -97,12 +97,8 @@ append-assoc′ (x ∷ a) b c = ap (λ (z : List Word). x ∷ z) (append-assoc�
 begins-before : (past : List Word) (w : Word) → Begins (in-order (w ∷ past)) → Begins (in-order past)
 begins-before past w b = record { more = w ∷ b .more; tree = b .tree; is = subst (λ (z : List Word). Script z (b .tree)) (append-assoc′ (in-order past) (w ∷ []) (b .more)) (b .is) }
 
-append-nil′ : (ws : List Word) → ws ++ [] ≡ ws
-append-nil′ [] = refl
-append-nil′ (w ∷ ws) = ap (λ (z : List Word). w ∷ z) (append-nil′ ws)
-
 passes-begins : {past : List Word} {t : Text} {tree : Tree} → Passes past t tree → Begins (in-order past)
-passes-begins {past} {tree = tree} (ended s) = record { more = []; tree = tree; is = subst (λ (z : List Word). Script z tree) (sym (append-nil′ (in-order past))) s }
+passes-begins {past} {tree = tree} (ended s) = record { more = []; tree = tree; is = subst (λ (z : List Word). Script z tree) (sym (append-nil (in-order past))) s }
 passes-begins {past} (passed {w = w} e h) = begins-before past w (passes-begins h)
 
 pub not-both : {past : List Word} {t : Text} {n : ℕ} {p : Place} {tree : Tree} → Refused past t n p → Passes past t tree → ⊥
@@ -117,7 +113,7 @@ one-passes (ended s) (ended s₂) = one-tree s s₂
 one-passes (passed e h) (passed e₂ h₂) = one-passes h h₂
 
 pub passes-script : {past : List Word} {t : Text} {tree : Tree} → Passes past t tree → Script (in-order past ++ words t) tree
-passes-script {past} {tree = tree} (ended s) = subst (λ (z : List Word). Script z tree) (sym (append-nil′ (in-order past))) s
+passes-script {past} {tree = tree} (ended s) = subst (λ (z : List Word). Script z tree) (sym (append-nil (in-order past))) s
 passes-script {past} {tree = tree} (passed {w = w} {t = t} e h) = subst (λ (z : List Word). Script z tree) (append-assoc′ (in-order past) (w ∷ []) (words t)) (passes-script h)
 
 -- a text without a refusal passes with the tree of its words
@@ -190,7 +186,7 @@ pub passes-all : (t : Text) (tree : Tree) → Passes [] t tree → (ws : List Wo
 passes-all t tree h = let r = passes-whole h in (words t, r .0, r .1, passes-script h, passes-keeps h)
 
 kept-passes : (ws : List Word) (p : Place) (tree : Tree) (past : List Word) → Script (in-order past ++ ws) tree → Kept past ws → Passes past (whole ws p) tree
-kept-passes [] p tree past s k = ended (subst (λ (z : List Word). Script z tree) (append-nil′ (in-order past)) s)
+kept-passes [] p tree past s k = ended (subst (λ (z : List Word). Script z tree) (append-nil (in-order past)) s)
 kept-passes (w ∷ []) p tree past s k = passed (k .0) (kept-passes [] p tree (w ∷ past) (subst (λ (z : List Word). Script z tree) (sym (append-assoc′ (in-order past) (w ∷ []) [])) s) (k .1))
 kept-passes (w ∷ v ∷ ws) p tree past s k = passed (k .0) (kept-passes (v ∷ ws) p tree (w ∷ past) (subst (λ (z : List Word). Script z tree) (sym (append-assoc′ (in-order past) (w ∷ []) (v ∷ ws))) s) (k .1))
 

@@ -2,7 +2,7 @@
 use mathlib.Core.Path.{_≡_, refl, sym, ap, subst, _∙_}
 use mathlib.Core.Bool.{Bool, true, false, cond}
 use mathlib.Core.Logic.{_⊎_, inl, inr}
-use mathlib.Core.List.{List, [], _∷_, _++_}
+use mathlib.Core.List.{List, [], _∷_, _++_, append-nil}
 use Prim.Native.Nat.{ℕ, suc, _≤_, _<_}
 use native.Mathlib.Omega.{arith}
 use lib.Dec.{eqb}
@@ -37,10 +37,6 @@ use Rattle.language.specs.Expected.Expect.{heads, body}
 use Rattle.language.specs.Readings.{before, passed, said, begins-statement, begins-declaration, Refuses, Unended, At-start, Starts, Stated, Declared}
 use Rattle.language.proofs.Steps.{words-before, no-statement, no-declaration}
 use Rattle.language.proofs.Verdicts.{passes-with, refused-at}
-
-nil : {A : Type 0} (xs : List A) → xs ++ [] ≡ xs
-nil [] = refl
-nil {A} (x ∷ xs) = ap (λ (z : List A). x ∷ z) (nil xs)
 
 -- the edge that makes a point stands among the edges exactly if the point is there
 maker-last : (q : ℕ) (es : List Edge) (e : Edge) (p : Place) → maker q (es ++ (e ∷ [])) ≡ Some p → (maker q es ≡ Some p) ⊎ (e .target ≡ q)
@@ -94,14 +90,14 @@ module _ {vs : List Variable} {ts : List a-table} {t t₁ : Text} (h : Declared 
       its-words : words t ≡ h .words ++ b .words
       its-words =
           ap words (h .joined ∙ ap (before (h .words)) (b .joined ∙ ap (before (b .words)) e)) ∙ words-before (h .words) (before (b .words) (ends p)) ∙
-          ap (λ (z : List Word). h .words ++ z) (words-before (b .words) (ends p) ∙ nil (b .words))
+          ap (λ (z : List Word). h .words ++ z) (words-before (b .words) (ends p) ∙ append-nil (b .words))
 
       is-script : Script (words t) tree
       unfolding tree
       is-script =
           subst (λ (ws : List Word). Script ws tree) (sym its-words)
-          (script (subst (Heads (h .words ++ b .words) (b .words)) (nil (h .declarations)) (h .derived (b .words) (b .words) [] no-decl))
-          (subst (λ (ws : List Word). Body ws [] (b .more done)) (nil (b .words)) (b .derived [] [] done no-stmt)))
+          (script (subst (Heads (h .words ++ b .words) (b .words)) (append-nil (h .declarations)) (h .derived (b .words) (b .words) [] no-decl))
+          (subst (λ (ws : List Word). Body ws [] (b .more done)) (append-nil (b .words)) (b .derived [] [] done no-stmt)))
 
       is-drawn : graph tree ≡ finished vs ts d
       unfolding tree

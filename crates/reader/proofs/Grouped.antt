@@ -1,7 +1,7 @@
 -- Edges grouped by target.
 use mathlib.Core.Path.{_≡_, refl, sym, ap, _∙_}
 use mathlib.Core.Bool.{Bool, true, cond}
-use mathlib.Core.List.{List, [], _∷_, _++_, append-assoc}
+use mathlib.Core.List.{List, [], _∷_, _++_, append-assoc, append-nil}
 use Prim.Native.Nat.{ℕ, zero, suc, _+_, _-_, _≤_, _<_}
 use native.Mathlib.Omega.{arith}
 use native.Mathlib.Numerals.{add-one}
@@ -20,10 +20,6 @@ use Rattle.language.specs.declared.Lookup.{Lookup}
 use Rattle.reader.specs.Grouping.{all, names-below, edge-fits, lookup-fits, incoming, grouped, offsets}
 use Rattle.language.proofs.Drawings.{each-snoc, each-map, made-some}
 
-nil : {A : Type 0} (xs : List A) → xs ++ [] ≡ xs
-nil [] = refl
-nil {A} (x ∷ xs) = ap (λ (z : List A). x ∷ z) (nil xs)
-
 -- one edge more is looked at
 module _ (p : ℕ) (es : List Edge) (i : ℕ) (d : Edge) (h : i < length es) where
   here : incoming p (drop i es) ≡ cond (eqb (getD es i d .target) p) (getD es i d ∷ incoming p (drop (i + 1) es)) (incoming p (drop (i + 1) es))
@@ -38,7 +34,7 @@ module _ (p : ℕ) (es : List Edge) (i : ℕ) (d : Edge) (h : i < length es) whe
   pass-it xs all e g = ap (λ (z : List Edge). xs ++ z) (sym (here ∙ cond-false (eqb (getD es i d .target) p) _ _ (ne-eqb (getD es i d .target) p e))) ∙ g
 
 pub gathered : (p : ℕ) (es : List Edge) (i : ℕ) (xs all : List Edge) → length es ≤ i → xs ++ incoming p (drop i es) ≡ all → xs ≡ all
-gathered p es i xs all h g = sym (nil xs) ∙ ap (λ (z : List Edge). xs ++ incoming p z) (sym (drop-all i es h)) ∙ g
+gathered p es i xs all h g = sym (append-nil xs) ∙ ap (λ (z : List Edge). xs ++ incoming p z) (sym (drop-all i es h)) ∙ g
 
 -- one point more is grouped
 pub grouped-more : (p : ℕ) (es xs ys : List Edge) → xs ≡ grouped p es → ys ≡ xs ++ incoming p es → ys ≡ grouped (p + 1) es
@@ -89,7 +85,7 @@ split-at (suc n) es p h = go (cases-lt p n) (split-at n es p)
         )
     go (inr k) ih =
         let e : n ≡ p = omega arith in
-        ([], ap (λ (m : ℕ). grouped m es ++ incoming m es) e ∙ ap (λ (z : List Edge). grouped p es ++ z) (sym (nil (incoming p es))))
+        ([], ap (λ (m : ℕ). grouped m es ++ incoming m es) e ∙ ap (λ (z : List Edge). grouped p es ++ z) (sym (append-nil (incoming p es))))
 
 drop-seam : {A : Type 0} (xs ys : List A) → drop (length xs) (xs ++ ys) ≡ ys
 drop-seam [] ys = refl
