@@ -6,14 +6,14 @@ use Rattle.words.proofs.bytes.gap_length.Goals as goal
 pub loop-n-preserved : goal.loop-n-preserved
 loop-n-preserved c =
     let bs = c.args.bytes.now in
-    let e = gap_more c.loop-n.comment bs c.loop-n.n c.loop-n-test.true (sym c.if-is-skipped.ensures) in
-    let k = ap (λ (z : Bool). length (gap z (drop (c.loop-n.n + 1) bs))) c.is-commenting-comment.ensures in
+    let e = gap_more c.loop-n.comment bs c.loop-n.n c.loop-n-test.true (sym c.if-is_skipped.ensures) in
+    let k = ap (λ (z : Bool). length (gap z (drop (c.loop-n.n + 1) bs))) c.is_commenting-comment.ensures in
     let i = c.loop-n.invariant.1 in
     (omega arith, omega arith)
 
-pub returns-else-is-skipped : goal.returns-else-is-skipped
-returns-else-is-skipped c =
-    let e = gap_stop c.loop-n.comment c.args.bytes.now c.loop-n.n c.loop-n-test.true (sym c.if-is-skipped.ensures) in
+pub returns-else-is_skipped : goal.returns-else-is_skipped
+returns-else-is_skipped c =
+    let e = gap_stop c.loop-n.comment c.args.bytes.now c.loop-n.n c.loop-n-test.true (sym c.if-is_skipped.ensures) in
     let i = c.loop-n.invariant.1 in let w = c.loop-n.invariant.0 in (omega arith, omega arith)
 
 pub returns-after-loop-n : goal.returns-after-loop-n

@@ -5,13 +5,13 @@ use Rattle.words.proofs.bytes.inner_length.Goals as goal
 
 pub loop-n-preserved : goal.loop-n-preserved
 loop-n-preserved c =
-    let e = run_more inner c.args.bytes.now c.loop-n.n c.loop-n-test.true (sym c.if-is-inner.ensures) in
+    let e = run_more inner c.args.bytes.now c.loop-n.n c.loop-n-test.true (sym c.if-is_inner.ensures) in
     let i = c.loop-n.invariant.1 in
     (omega arith, omega arith)
 
-pub returns-else-is-inner : goal.returns-else-is-inner
-returns-else-is-inner c =
-    let e = run_stop inner c.args.bytes.now c.loop-n.n c.loop-n-test.true (sym c.if-is-inner.ensures) in
+pub returns-else-is_inner : goal.returns-else-is_inner
+returns-else-is_inner c =
+    let e = run_stop inner c.args.bytes.now c.loop-n.n c.loop-n-test.true (sym c.if-is_inner.ensures) in
     let i = c.loop-n.invariant.1 in omega arith
 
 pub returns-after-loop-n : goal.returns-after-loop-n

@@ -13,9 +13,9 @@ loop-b-preserved c room =
     let p = c.args.place in
     elim c.if-b-eq10.branch [
       | then-b-eq10 w ↦ place_line bs p c.loop-b.b-index c.loop-b.line c.loop-b.column c.if-b-eq10.line c.if-b-eq10.column h i w.if-b-eq10.true
-          (omega (arith, w.line-is, w.saturating-add-line.ensures)) w.column-is
+          (omega (arith, w.line-is, w.saturating_add-line.ensures)) w.column-is
       | else-b-eq10 w ↦ place_column bs p c.loop-b.b-index c.loop-b.line c.loop-b.column c.if-b-eq10.line c.if-b-eq10.column h i w.if-b-eq10.false
-          w.line-is (omega (arith, w.column-is, w.saturating-add-column.ensures))
+          w.line-is (omega (arith, w.column-is, w.saturating_add-column.ensures))
     ]
 
 pub returns : goal.returns

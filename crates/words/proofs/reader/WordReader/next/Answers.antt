@@ -4,18 +4,18 @@ use Rattle.words.specs.Reader.{Room}
 use Rattle.words.proofs.Finding.{goes, goes_text, room_kept, words_stand}
 use Rattle.words.proofs.reader.WordReader.next.Goals as goal
 
-pub invariant-of-self : goal.invariant-of-self
-invariant-of-self c =
+pub invariant_of-self : goal.invariant_of-self
+invariant_of-self c =
     let bs = c.args.self.now.rest.now in
     let p = c.args.self.now.place in
     let room : Room p (length bs) = (c.args.self.now.lines, c.args.self.now.columns) in
-    let g = c.gap-length-skipped.result in
-    let n = c.part-of-n.result.1 in
+    let g = c.gap_length-skipped.result in
+    let n = c.part_of-n.result.1 in
     let text = take (length bs - g) (drop g bs) in
-    let s = goes bs p c.part-of-n.result.0 g n c.place-behind-place.result c.place-behind-behind.result
+    let s = goes bs p c.part_of-n.result.0 g n c.place_behind-place.result c.place_behind-behind.result
     text (take (length text - n) (drop n text)) (take_rest bs g) (take_rest text n) room
-    c.gap-length-skipped.ensures.0 c.place-behind-place.ensures c.part-of-n.ensures c.place-behind-behind.ensures in
-    let k = room_kept bs p c.part-of-n.result.0 (take (length text - n) (drop n text)) c.place-behind-behind.result s room in
+    c.gap_length-skipped.ensures.0 c.place_behind-place.ensures c.part_of-n.ensures c.place_behind-behind.ensures in
+    let k = room_kept bs p c.part_of-n.result.0 (take (length text - n) (drop n text)) c.place_behind-behind.result s room in
     (k.0, (k.1, tt))
 
 pub returns : goal.returns
@@ -23,11 +23,11 @@ returns c =
     let bs = c.args.self.now.rest.now in
     let p = c.args.self.now.place in
     let room : Room p (length bs) = (c.args.self.now.lines, c.args.self.now.columns) in
-    let g = c.gap-length-skipped.result in
-    let n = c.part-of-n.result.1 in
+    let g = c.gap_length-skipped.result in
+    let n = c.part_of-n.result.1 in
     let text = take (length bs - g) (drop g bs) in
     let rest = take (length text - n) (drop n text) in
-    let s = goes bs p c.part-of-n.result.0 g n c.place-behind-place.result c.place-behind-behind.result
+    let s = goes bs p c.part_of-n.result.0 g n c.place_behind-place.result c.place_behind-behind.result
     text rest (take_rest bs g) (take_rest text n) room
-    c.gap-length-skipped.ensures.0 c.place-behind-place.ensures c.part-of-n.ensures c.place-behind-behind.ensures in
-    record { goes = s; words = goes_text bs p c.part-of-n.result.0 rest c.place-behind-behind.result s; laws = words_stand }
+    c.gap_length-skipped.ensures.0 c.place_behind-place.ensures c.part_of-n.ensures c.place_behind-behind.ensures in
+    record { goes = s; words = goes_text bs p c.part_of-n.result.0 rest c.place_behind-behind.result s; laws = words_stand }
