@@ -7,10 +7,10 @@ pub loop-d-preserved : goal.loop-d-preserved
 loop-d-preserved c =
     let ds = c.args.digits.now in
     let i = c.loop-d.d-index in
-    let b : get_or ds i 0 < 256 = omega (arith, c.ok.digits i) in
+    let b : get_or ds i 0 < 256 = omega (arith, c.type_inv.digits i) in
     elim c.if-n-le2147483647.branch [
       | then-n-le2147483647 w ↦ count_on ds i c.loop-d.n c.if-n-le2147483647.n c.loop-d-test.true c.loop-d.invariant w.if-n-le2147483647.true b
-          (omega (arith, w.n-is, w.from.ensures, w.saturating-sub.ensures))
+          (omega (arith, w.n-is, w.from.ensures, w.saturating_sub.ensures))
       | else-n-le2147483647 w ↦ count_past ds i c.loop-d.n c.if-n-le2147483647.n c.loop-d.invariant w.if-n-le2147483647.false w.n-is
     ]
 

@@ -16,7 +16,7 @@ invariant_of-self c =
     text (take (length text - n) (drop n text)) (take_rest bs g) (take_rest text n) room
     c.gap_length-skipped.ensures.0 c.place_behind-place.ensures c.part_of-n.ensures c.place_behind-behind.ensures in
     let k = room_kept bs p c.part_of-n.result.0 (take (length text - n) (drop n text)) c.place_behind-behind.result s room in
-    (k.0, (k.1, tt))
+    record { lines = k.0; columns = k.1 }
 
 pub returns : goal.returns
 returns c =
