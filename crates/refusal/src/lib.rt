@@ -1,4 +1,6 @@
 // Why a call turns back: the reason, which has a number and a layer, and the place in the script, if there is one.
+#![tactic(auto)]
+
 ghost use Rattle.std.specs.Prelude.{◌≡◌};
 ghost use Rattle.refusal.specs.Reasons.{number_of, layer_of, text_of, located, nowhere, no_memory};
 

@@ -1,4 +1,6 @@
 // The words of a script: parts of the lent bytes, each with the line and column where it begins.
+#![tactic(auto)]
+
 use refusal::{Place, Reason};
 
 mod bytes;
