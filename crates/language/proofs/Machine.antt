@@ -3,7 +3,6 @@ use Rattle.std.proofs.Common.{◌≡◌, ℕ, Bool, true, false, cond, List, [],
 use Rattle.std.proofs.lemmas.Bool.{and_parts, false≢true}
 use Rattle.words.specs.Words.{Word}
 use Rattle.words.specs.Words.Word.{name, number, mark}
-use Rattle.words.specs.Marks.{is}
 use Rattle.words.proofs.Told.{mark_same, no_some}
 use Rattle.language.specs.Grammar.{Declaration, Side, Order, Operand, Condition, Statements, Tree, Const, Span, Heads, Compare, Compared, Cond, Right, Body, Script, Begins}
 use Rattle.language.specs.Grammar.Const.{plain, signed}

@@ -16,7 +16,6 @@ use Rattle.language.specs.Grammar.Const.{plain as a_plain, signed as a_signed}
 use Rattle.language.specs.Grammar.Right.{a_const, a_copy, a_sum, a_difference, a_negation, a_hear, a_sense, a_lookup}
 use Rattle.language.specs.Graphs.{Variable, Table as ATable, var_names, table_names}
 use Rattle.language.specs.Names.{rule, is_variable, is_table, next_is_bracket}
-use Rattle.language.specs.Expected as expected
 use Rattle.language.specs.Expected.{Expect, one, step, refusal, refuse}
 use Rattle.language.specs.Expected.Expect.{just, span, right, behind_minus, behind_name}
 use Rattle.language.specs.Expected.Terminal.{any_name, any_number}

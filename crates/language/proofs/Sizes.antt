@@ -1,7 +1,7 @@
 -- The constants of a script are at most 2147483647 in size.
 use Rattle.std.proofs.Common.{ℕ, zero, suc, ◌≤◌, false, leb, List, [], ◌∷◌, length, drop, ℤ, pos, neg_ℤ, Some, None, Option, subst, arith}
 use Rattle.std.proofs.lemmas.Bool.{cond_both, leb-true}
-use Rattle.words.specs.Words.{Word, Next, Text, Reads, Part, Spelling, letter, digit, inner, run, gap, behind, reserved, reserved_in, name_word, value, symbols, symbol_in, symbol_part, part, next}
+use Rattle.words.specs.Words.{Word, Next, Text, Reads, Part, Spelling, letter, digit, inner, run, gap, behind, reserved, reserved_in, name_word, value, symbols, symbol_in, symbol_part, part}
 use Rattle.words.specs.Words.Word.{name, number, mark}
 use Rattle.words.specs.Words.Next.{word, fault, end}
 use Rattle.words.specs.Words.Reads.{at_end, at_fault, at_word}

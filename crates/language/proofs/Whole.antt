@@ -22,7 +22,6 @@ use Rattle.language.specs.Names.{Passes, Verdict}
 use Rattle.language.specs.Names.Outcome.{refused, drawn}
 use Rattle.language.specs.Names.Verdict.{too_many, fine}
 use Rattle.language.specs.Rules.{words}
-use Rattle.language.specs.Expected as expected
 use Rattle.language.specs.Expected.{refusal, at_first}
 use Rattle.language.specs.Expected.Expect.{heads, body}
 use Rattle.language.specs.Readings.{before, passed, said, begins_statement, begins_declaration, Refuses, Unended, AtStart, Starts, Stated, Declared}

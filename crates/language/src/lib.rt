@@ -1,5 +1,7 @@
 // The script language: what a script is, which texts are refused and where, and the graph of points and edges
 // that a script means. This crate has the types of a graph's parts; the rest of it is definitions and their laws.
+#![tactic(auto)]
+
 use refusal::Place;
 
 // The whole numbers from `low` to `high`.
