@@ -1,7 +1,7 @@
 #!/usr/bin/env python3
 """Brings the repository's own names in specs/ and proofs/ to one spelling.
 
-usage: python3 tools/spelling.py        at the top of the repository
+usage: python3 tools/spelling.py        at the top of the repository, once, after the kit's script
 
 Definitions, lemmas, fields and constructors are in snake case, types in camel case: `layer-of` becomes `layer_of`, `Holds-up`
 becomes `HoldsUp`. A dash before an operator stays (`before-++`). Names that the kit's library declares or makes keep their
@@ -16,7 +16,7 @@ HEAD = re.compile(r"^\s*(?:pub |abbrev |data |record )*(" + TOKEN + r")((?:[ ,]+
 TYPE = re.compile(r"^\s*(?:pub )?(?:data|record) (" + TOKEN + r")")
 MADE = re.compile(r"^(returns|loop|invariant|decreases|slice-bounds|part-requires|index-(from|to)-requires|read-\w+-(returns|loop))-|-returns-|-loop-")
 # names that would fall together with another, and types that began with a small letter
-OTHERS = {"At-most": "AtMostGuard", "At-least": "AtLeastGuard", "lies-under": "depth_under", "a-table": "ATable", "Block-words": "block_words"}
+OTHERS = {"At-most": "AtMostGuard", "At-least": "AtLeastGuard", "lies-under": "depth_under", "a-table": "ATable", "Block-words": "block_words", "at_least_lem": "at_least"}
 KIT = re.compile(r"\b(?:use|open)\b[^;{]*\bRattle\.(?:std|core)\.[^{;]*\{([^}]*)\}")
 # code of one line: strings and comments are told apart from what they stand in
 PART = re.compile(r'"(?:[^"\\]|\\.)*"|' + "--(?= |$).*|//.*|" + TOKEN + r"|.", re.S)

@@ -8,7 +8,7 @@ use Rattle.language.specs.Grammar.{Declaration, Side, Order, Operand, Condition,
 use Rattle.language.specs.Grammar.Declaration.{variable, table}
 use Rattle.language.specs.declared.Range.{Range}
 use Rattle.language.specs.Grammar.Side.{constant, shifted, negated, any, reading}
-use Rattle.language.specs.Grammar.Order.{below, at_most, above, at_least_lem}
+use Rattle.language.specs.Grammar.Order.{below, at_most, above, at_least}
 use Rattle.language.specs.Grammar.Operand.{against, limit}
 use Rattle.language.specs.Grammar.Condition.{compares}
 use Rattle.language.specs.Grammar.Statements.{done, assign, choose, repeat}
@@ -99,11 +99,11 @@ module _ (V T : ℕ) where
   guard_below i below (limit c) num h k s = (h, less_size c s)
   guard_below i at_most (limit c) num h k s = (h, omega arith)
   guard_below i above (limit c) num h k s = (h, more_size c s)
-  guard_below i at_least_lem (limit c) num h k s = (h, omega arith)
+  guard_below i at_least (limit c) num h k s = (h, omega arith)
   guard_below i below (against n) num h k s = (h, k n refl, omega arith)
   guard_below i at_most (against n) num h k s = (h, k n refl, omega arith)
   guard_below i above (against n) num h k s = (k n refl, h, omega arith)
-  guard_below i at_least_lem (against n) num h k s = (k n refl, h, omega arith)
+  guard_below i at_least (against n) num h k s = (k n refl, h, omega arith)
 
 module _ (vs : List Variable) (ts : List Table) where
   vns : List (List ℕ)

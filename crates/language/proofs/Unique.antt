@@ -5,7 +5,7 @@ use Rattle.words.specs.Words.Word.{mark}
 use Rattle.language.specs.Grammar.{Declaration, Side, Operand, Condition, Statements, Tree, Const, Span, Heads, Compared, Cond, Right, Body, Script}
 use Rattle.language.specs.Grammar.Declaration.{variable, table}
 use Rattle.language.specs.Grammar.Side.{any}
-use Rattle.language.specs.Grammar.Order.{below, at_most, above, at_least_lem}
+use Rattle.language.specs.Grammar.Order.{below, at_most, above, at_least}
 use Rattle.language.specs.Grammar.Condition.{compares}
 use Rattle.language.specs.Grammar.Statements.{done, assign, choose, repeat}
 use Rattle.language.specs.Grammar.Const.{plain, signed}
@@ -52,7 +52,7 @@ u_cond : {ws r r₂ : List Word} {c c₂ : Condition} → Cond ws r c → Cond w
 u_cond (condition {n = n} less v) (condition less v₂) = let e = u_compared v v₂ in (e.0, ap (compares n below) e.1)
 u_cond (condition {n = n} less_equal v) (condition less_equal v₂) = let e = u_compared v v₂ in (e.0, ap (compares n at_most) e.1)
 u_cond (condition {n = n} greater v) (condition greater v₂) = let e = u_compared v v₂ in (e.0, ap (compares n above) e.1)
-u_cond (condition {n = n} greater_equal v) (condition greater_equal v₂) = let e = u_compared v v₂ in (e.0, ap (compares n at_least_lem) e.1)
+u_cond (condition {n = n} greater_equal v) (condition greater_equal v₂) = let e = u_compared v v₂ in (e.0, ap (compares n at_least) e.1)
 
 u_right : {ws r r₂ : List Word} {s s₂ : Place} {e e₂ : Side} → Right ws (mark Semicolon s ∷ r) e → Right ws (mark Semicolon s₂ ∷ r₂) e₂ → (r ≡ r₂) × (e ≡ e₂)
 u_right (a_const plain) (a_const plain) = (refl, refl)

@@ -29,7 +29,7 @@ pub data Side : Type 0 where
   reading : List ℕ → List ℕ → Place → Side  -- the table, the index and where the index stands
 
 pub data Order : Type 0 where
-  below at_most above at_least_lem : Order
+  below at_most above at_least : Order
 
 pub data Operand : Type 0 where
   against : List ℕ → Operand
@@ -72,7 +72,7 @@ pub data Compare : List Word → List Word → Order → Type 0 where
   less : {p : Place} {r : List Word} → Compare (mark Less p ∷ r) r below
   less_equal : {p : Place} {r : List Word} → Compare (mark LessEqual p ∷ r) r at_most
   greater : {p : Place} {r : List Word} → Compare (mark Greater p ∷ r) r above
-  greater_equal : {p : Place} {r : List Word} → Compare (mark GreaterEqual p ∷ r) r at_least_lem
+  greater_equal : {p : Place} {r : List Word} → Compare (mark GreaterEqual p ∷ r) r at_least
 
 pub data Compared : List Word → List Word → Operand → Type 0 where
   named : {n : List ℕ} {p : Place} {r : List Word} → Compared (name n p ∷ r) r (against n)

@@ -4,7 +4,7 @@ use Rattle.words.specs.Words.{among, same}
 use Rattle.language.specs.Grammar.{Declaration, Side, Order, Operand, Condition, Statements, Tree}
 use Rattle.language.specs.Grammar.Declaration.{variable, table}
 use Rattle.language.specs.Grammar.Side.{constant, shifted, negated, any, reading}
-use Rattle.language.specs.Grammar.Order.{below, at_most, above, at_least_lem}
+use Rattle.language.specs.Grammar.Order.{below, at_most, above, at_least}
 use Rattle.language.specs.Grammar.Operand.{against, limit}
 use Rattle.language.specs.Grammar.Condition.{compares}
 use Rattle.language.specs.Grammar.Statements.{done, assign, choose, repeat}
@@ -96,17 +96,17 @@ abbrev pub guard : ℕ → Order → Operand → (List ℕ → ℕ) → Action
 guard i below (limit c) num = AtMost i (c -ℤ pos 1)
 guard i at_most (limit c) num = AtMost i c
 guard i above (limit c) num = AtLeast i (c +ℤ pos 1)
-guard i at_least_lem (limit c) num = AtLeast i c
+guard i at_least (limit c) num = AtLeast i c
 guard i below (against k) num = Before i (num k) (negsuc 0)
 guard i at_most (against k) num = Before i (num k) (pos 0)
 guard i above (against k) num = Before (num k) i (negsuc 0)
-guard i at_least_lem (against k) num = Before (num k) i (pos 0)
+guard i at_least (against k) num = Before (num k) i (pos 0)
 
 abbrev pub opposite : Order → Order
-opposite below = at_least_lem
+opposite below = at_least
 opposite at_most = above
 opposite above = at_most
-opposite at_least_lem = below
+opposite at_least = below
 
 abbrev pub holds : (List ℕ → ℕ) → Condition → Action
 holds num (compares i o v) = guard (num i) o v num

@@ -13,7 +13,7 @@ use Rattle.words.specs.declared.Mark.{Mark}
 use Rattle.words.specs.declared.Mark.TheVariants.{Becomes, Dots, Less, LessEqual, Greater, GreaterEqual, Equals, Plus, Minus, OpenBrace, CloseBrace, OpenBracket, CloseBracket, Semicolon, Var, Table, If, While, Hear, Sense}
 use Rattle.language.specs.Grammar.{Declaration, Side, Order, Operand, Condition, Statements, Span, Right, Compare, Compared, Heads, Cond, Body}
 use Rattle.language.specs.Grammar.Side.{reading}
-use Rattle.language.specs.Grammar.Order.{below, at_most, above, at_least_lem}
+use Rattle.language.specs.Grammar.Order.{below, at_most, above, at_least}
 use Rattle.language.specs.declared.Source.{Source}
 use Rattle.language.specs.declared.Source.TheVariants.{Sensed, Heard}
 use Rattle.language.specs.declared.Range.{Range}
@@ -142,7 +142,7 @@ pub data Orders : Mark → Order → Type 0 where
   less_than : Orders Less below
   at_most_than : Orders LessEqual at_most
   greater_than : Orders Greater above
-  at_least_than : Orders GreaterEqual at_least_lem
+  at_least_than : Orders GreaterEqual at_least
 
 -- the words just before are this name and a comparison
 pub data Compares (n : List ℕ) : List Word → Type 0 where

@@ -65,7 +65,7 @@ abbrev pub order_of : grammar.Order → Order
 order_of grammar.Order.below = Below
 order_of grammar.Order.at_most = AtMost
 order_of grammar.Order.above = Above
-order_of grammar.Order.at_least_lem = AtLeast
+order_of grammar.Order.at_least = AtLeast
 
 module _ (vs : List graphs.Variable) (ts : List graphs.Table) where
   abbrev pub side_of : grammar.Side → Side

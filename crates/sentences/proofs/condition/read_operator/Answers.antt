@@ -1,6 +1,6 @@
 use Rattle.std.proofs.Common.{sym, refl}
 use Rattle.words.specs.declared.Mark.TheVariants.{Less, LessEqual, Greater}
-use Rattle.language.specs.Grammar.Order.{below, at_most, above, at_least_lem}
+use Rattle.language.specs.Grammar.Order.{below, at_most, above, at_least}
 use Rattle.language.specs.Readings.Orders.{less_than, at_most_than, greater_than, at_least_than}
 use Rattle.language.proofs.Turning.{turns}
 use Rattle.language.proofs.Conditions.{over_order, refuses_operator}
@@ -30,4 +30,4 @@ returns-in-err-mark c =
     (turns (refuses_operator (left c.args.s.now) _ (sym c.if-at.ensures) (sym c.if-at-2.ensures) (sym c.if-at-3.ensures)) c.in-err-mark.ensures)
 
 pub returns : goal.returns
-returns c = (at_least_lem, refl, over_order at_least_than _ _ _ c.in-ok-mark.ensures)
+returns c = (at_least, refl, over_order at_least_than _ _ _ c.in-ok-mark.ensures)
