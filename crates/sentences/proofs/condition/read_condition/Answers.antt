@@ -9,43 +9,43 @@ use Rattle.sentences.specs.Models.{left, vars_of, tabs_of}
 use Rattle.sentences.proofs.Exits.{handed_on}
 use Rattle.sentences.proofs.condition.read_condition.Goals as goal
 
-pub returns-in-err-name : goal.returns-in-err-name
-returns-in-err-name c =
+pub returns-in_err-name : goal.returns-in_err-name
+returns-in_err-name c =
     let n = c.args.names.now in
-    handed_on _ _ c.from-residual.result _ c.from-residual.ensures.1
-    (turns (refuses_left (vars_of n) (tabs_of n) (left c.args.s.now) _) c.in-err-name.ensures)
+    handed_on _ _ c.from_residual.result _ c.from_residual.ensures.1
+    (turns (refuses_left (vars_of n) (tabs_of n) (left c.args.s.now) _) c.in_err-name.ensures)
 
-pub returns-in-err-left : goal.returns-in-err-left
-returns-in-err-left c =
+pub returns-in_err-left : goal.returns-in_err-left
+returns-in_err-left c =
     let n = c.args.names.now in
-    let h = c.in-err-left.ensures in
+    let h = c.in_err-left.ensures in
     handed_on _ _ c.from-residual-in-err-left.result _ c.from-residual-in-err-left.ensures.1
     (turns_at (condition ∷ []) (KnowsAsks (vars_of n) (tabs_of n)) _ _ Undeclared _ h.1
-    (left_decides (vars_of n) (tabs_of n) c.in-ok-name.ensures false h.0))
+    (left_decides (vars_of n) (tabs_of n) c.in_ok-name.ensures false h.0))
 
-pub returns-in-err-order : goal.returns-in-err-order
-returns-in-err-order c =
+pub returns-in_err-order : goal.returns-in_err-order
+returns-in_err-order c =
     let n = c.args.names.now in
-    let h = c.in-ok-left.ensures in
+    let h = c.in_ok-left.ensures in
     handed_on _ _ c.from-residual-in-err-order.result _ c.from-residual-in-err-order.ensures.1
-    (turns (refuses_order (vars_of n) (tabs_of n) c.in-ok-name.ensures h.0 _) c.in-err-order.ensures)
+    (turns (refuses_order (vars_of n) (tabs_of n) c.in_ok-name.ensures h.0 _) c.in-err-order.ensures)
 
-pub returns-in-err-right : goal.returns-in-err-right
-returns-in-err-right c =
+pub returns-in_err-right : goal.returns-in_err-right
+returns-in_err-right c =
     let n = c.args.names.now in
-    let h = c.in-ok-left.ensures in
-    let o = c.in-ok-order.ensures in
+    let h = c.in_ok-left.ensures in
+    let o = c.in_ok-order.ensures in
     handed_on _ _ c.from-residual-in-err-right.result _ c.from-residual-in-err-right.ensures.1
-    (turns (refuses_right (vars_of n) (tabs_of n) c.in-ok-name.ensures h.0 o.2 _) c.in-err-right.ensures)
+    (turns (refuses_right (vars_of n) (tabs_of n) c.in_ok-name.ensures h.0 o.2 _) c.in-err-right.ensures)
 
 pub returns : goal.returns
 returns c =
     let n = c.args.names.now in
-    let h = c.in-ok-left.ensures in
-    let o = c.in-ok-order.ensures in
-    let v = c.in-ok-right.ensures in (
-      compares c.in-ok-name.name.now o.0 v.0,
+    let h = c.in_ok-left.ensures in
+    let o = c.in_ok-order.ensures in
+    let v = c.in_ok-right.ensures in (
+      compares c.in_ok-name.name.now o.0 v.0,
       (λ i. record { left = h.1 i; order = o.1 i; right = v.1 i }),
       v.2,
-      over_condition (vars_of n) (tabs_of n) c.in-ok-name.ensures h.0 o.2 v.0 _ v.3,
+      over_condition (vars_of n) (tabs_of n) c.in_ok-name.ensures h.0 o.2 v.0 _ v.3,
     )

@@ -24,10 +24,10 @@ returns-then-at-3 c =
     let m = taken_mark Greater _ (left c.args.s.now) (left c.take-then-at-3.new.self) c.take-then-at-3.ensures (sym c.if-at-3.ensures) in
     (above, refl, over_order greater_than m.0 _ _ m.1)
 
-pub returns-in-err-mark : goal.returns-in-err-mark
-returns-in-err-mark c =
-    handed_on _ _ c.from-residual.result _ c.from-residual.ensures.1
-    (turns (refuses_operator (left c.args.s.now) _ (sym c.if-at.ensures) (sym c.if-at-2.ensures) (sym c.if-at-3.ensures)) c.in-err-mark.ensures)
+pub returns-in_err-mark : goal.returns-in_err-mark
+returns-in_err-mark c =
+    handed_on _ _ c.from_residual.result _ c.from_residual.ensures.1
+    (turns (refuses_operator (left c.args.s.now) _ (sym c.if-at.ensures) (sym c.if-at-2.ensures) (sym c.if-at-3.ensures)) c.in_err-mark.ensures)
 
 pub returns : goal.returns
-returns c = (at_least, refl, over_order at_least_than _ _ _ c.in-ok-mark.ensures)
+returns c = (at_least, refl, over_order at_least_than _ _ _ c.in_ok-mark.ensures)

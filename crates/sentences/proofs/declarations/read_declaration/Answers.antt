@@ -10,11 +10,11 @@ use Rattle.sentences.proofs.declarations.read_declaration.Goals as goal
 pub returns-then-at : goal.returns-then-at
 returns-then-at c =
     let n = c.args.names.now in
-    MatchResult-weaker c.read-variable.result c.read-variable.ensures (λ _ h. h)
+    MatchResult-weaker c.read_variable.result c.read_variable.ensures (λ _ h. h)
     (λ e h _. turns (λ r k past y. heads_varying (vars_of n) (tabs_of n) (left c.args.s.now) k past (sym c.if-at.ensures) ∙ r (heads ∷ k) past y) h)
 
 pub returns-else-at : goal.returns-else-at
 returns-else-at c =
     let n = c.args.names.now in
-    MatchResult-weaker c.read-table.result c.read-table.ensures (λ _ h. h)
+    MatchResult-weaker c.read_table.result c.read_table.ensures (λ _ h. h)
     (λ e h b. turns (λ r k past y. heads_tabling (vars_of n) (tabs_of n) (left c.args.s.now) k past (ATable (left c.args.s.now) b (sym c.if-at.ensures)) ∙ r (heads ∷ k) past y) h)

@@ -22,8 +22,8 @@ loop-heap-smaller c = shorter c.in-ok-read-declaration.ensures
 pub loop-heap-preserved : goal.loop-heap-preserved
 loop-heap-preserved c = declared_more c.loop-heap.invariant c.in-ok-read-declaration.ensures
 
-pub returns-in-err-read-declaration : goal.returns-in-err-read-declaration
-returns-in-err-read-declaration c =
+pub returns-in_err-read_declaration : goal.returns-in_err-read_declaration
+returns-in_err-read_declaration c =
     let i = c.loop-heap.invariant in
     let t = left c.args.s.now in
     handed_on _ _ c.from-residual.result _ c.from-residual.ensures.1

@@ -11,34 +11,34 @@ use Rattle.sentences.specs.declared.side.Side.TheVariants.{Negated}
 use Rattle.sentences.proofs.Exits.{handed_on}
 use Rattle.sentences.proofs.side.read_negative.Goals as goal
 
-pub returns-in-err-name : goal.returns-in-err-name
-returns-in-err-name c =
+pub returns-in_err-name : goal.returns-in_err-name
+returns-in_err-name c =
     let n = c.args.names.now in
-    handed_on _ _ c.from-residual.result _ c.from-residual.ensures.1
-    (turns (refuses_negated (vars_of n) (tabs_of n) (left c.args.s.now) _ (sym c.if-at-name.ensures)) c.in-err-name.ensures)
+    handed_on _ _ c.from_residual.result _ c.from_residual.ensures.1
+    (turns (refuses_negated (vars_of n) (tabs_of n) (left c.args.s.now) _ (sym c.if-at_name.ensures)) c.in_err-name.ensures)
 
-pub returns-in-err-i : goal.returns-in-err-i
-returns-in-err-i c =
+pub returns-in_err-i : goal.returns-in_err-i
+returns-in_err-i c =
     let n = c.args.names.now in
-    let h = c.in-err-i.ensures in
-    handed_on _ _ c.from-residual-in-err-i.result _ c.from-residual-in-err-i.ensures.1
+    let h = c.in_err-i.ensures in
+    handed_on _ _ c.from_residual-in_err-i.result _ c.from_residual-in_err-i.ensures.1
     (turns_at (behind_minus ∷ []) (KnowsNegates (vars_of n) (tabs_of n)) _ _ Undeclared _ h.1
-    (negative_decides (vars_of n) (tabs_of n) false _ _ _ _ c.in-ok-name.ensures h.0))
+    (negative_decides (vars_of n) (tabs_of n) false _ _ _ _ c.in_ok-name.ensures h.0))
 
-pub returns-then-at-name : goal.returns-then-at-name
-returns-then-at-name c =
+pub returns-then-at_name : goal.returns-then-at_name
+returns-then-at_name c =
     let n = c.args.names.now in
-    let h = c.in-ok-i.ensures in
-    (negated c.in-ok-name.name.now, ap Negated h.1, negative_name (vars_of n) (tabs_of n) _ _ _ _ c.in-ok-name.ensures h.0)
+    let h = c.in_ok-i.ensures in
+    (negated c.in_ok-name.name.now, ap Negated h.1, negative_name (vars_of n) (tabs_of n) _ _ _ _ c.in_ok-name.ensures h.0)
 
-pub returns-in-err-n : goal.returns-in-err-n
-returns-in-err-n c =
+pub returns-in_err-n : goal.returns-in_err-n
+returns-in_err-n c =
     let n = c.args.names.now in
-    handed_on _ _ c.from-residual-in-err-n.result _ c.from-residual-in-err-n.ensures.1
-    (turns (refuses_negative (vars_of n) (tabs_of n) (left c.args.s.now) _ (sym c.if-at-name.ensures)) c.in-err-n.ensures)
+    handed_on _ _ c.from_residual-in_err-n.result _ c.from_residual-in_err-n.ensures.1
+    (turns (refuses_negative (vars_of n) (tabs_of n) (left c.args.s.now) _ (sym c.if-at_name.ensures)) c.in_err-n.ensures)
 
 pub returns : goal.returns
 returns c =
     let n = c.args.names.now in
-    let z : to_z w64 (of_z w64 c.negative.result) ≡ neg_ℤ (pos c.in-ok-n.n) = to_z-of_z w64 c.negative.result (search rules) ∙ c.negative.ensures in
-    (constant (to_z w64 (of_z w64 c.negative.result)), refl, negative_number (vars_of n) (tabs_of n) c.in-ok-n.n _ _ _ _ z c.in-ok-n.ensures)
+    let z : to_z w64 (of_z w64 c.negative.result) ≡ neg_ℤ (pos c.in_ok-n.n) = to_z-of_z w64 c.negative.result (search rules) ∙ c.negative.ensures in
+    (constant (to_z w64 (of_z w64 c.negative.result)), refl, negative_number (vars_of n) (tabs_of n) c.in_ok-n.n _ _ _ _ z c.in_ok-n.ensures)

@@ -15,33 +15,33 @@ use Rattle.sentences.specs.Models.{left}
 use Rattle.sentences.proofs.Exits.{handed_on}
 use Rattle.sentences.proofs.side.read_range.Goals as goal
 
-pub returns-in-err-low : goal.returns-in-err-low
-returns-in-err-low c =
-    handed_on _ _ c.from-residual.result _ c.from-residual.ensures.1
-    (turns (λ h k past y. span_const k past (left c.args.s.now) ∙ h (one Dots ∷ const ∷ k) past tt) c.in-err-low.ensures.read)
+pub returns-in_err-low : goal.returns-in_err-low
+returns-in_err-low c =
+    handed_on _ _ c.from_residual.result _ c.from_residual.ensures.1
+    (turns (λ h k past y. span_const k past (left c.args.s.now) ∙ h (one Dots ∷ const ∷ k) past tt) c.in_err-low.ensures.read)
 
-pub returns-in-err-mark : goal.returns-in-err-mark
-returns-in-err-mark c =
-    handed_on _ _ c.from-residual-in-err-mark.result _ c.from-residual-in-err-mark.ensures.1
-    (turns (λ h k past y. span_first c.in-ok-low.ensures.read k past y ∙ h (const ∷ k) _ tt) c.in-err-mark.ensures)
+pub returns-in_err-mark : goal.returns-in_err-mark
+returns-in_err-mark c =
+    handed_on _ _ c.from_residual-in_err-mark.result _ c.from_residual-in_err-mark.ensures.1
+    (turns (λ h k past y. span_first c.in_ok-low.ensures.read k past y ∙ h (const ∷ k) _ tt) c.in_err-mark.ensures)
 
-pub returns-in-err-high : goal.returns-in-err-high
-returns-in-err-high c =
-    handed_on _ _ c.from-residual-in-err-high.result _ c.from-residual-in-err-high.ensures.1
-    (turns (λ h k past y. span_second c.in-ok-low.ensures.read c.in-ok-mark.ensures k past y ∙ h k _ tt) c.in-err-high.ensures.read)
+pub returns-in_err-high : goal.returns-in_err-high
+returns-in_err-high c =
+    handed_on _ _ c.from_residual-in_err-high.result _ c.from_residual-in_err-high.ensures.1
+    (turns (λ h k past y. span_second c.in_ok-low.ensures.read c.in_ok-mark.ensures k past y ∙ h k _ tt) c.in_err-high.ensures.read)
 
 pub returns-then-high-low : goal.returns-then-high-low
 returns-then-high-low c =
-    let h : lt_z c.in-ok-high.high c.in-ok-low.low ≡ true = grind (arith, ints) in
+    let h : lt_z c.in_ok-high.high c.in_ok-low.low ≡ true = grind (arith, ints) in
     turns_at (span ∷ []) Quiet _ _ RangeFalls _ c.at.ensures
-    (span_falls c.in-ok-low.ensures.read c.in-ok-mark.ensures c.in-ok-high.ensures.read h)
+    (span_falls c.in_ok-low.ensures.read c.in_ok-mark.ensures c.in_ok-high.ensures.read h)
 
 pub returns : goal.returns
 returns c =
-    let low = c.in-ok-low.low in
-    let high = c.in-ok-high.high in
+    let low = c.in_ok-low.low in
+    let high = c.in_ok-high.high in
     let h : lt_z high low ≡ false = grind (arith, ints) in
     let a : low ≡ to_z w64 (of_z w64 low) = omega (arith, ints) in
     let b : high ≡ to_z w64 (of_z w64 high) = omega (arith, ints) in
     subst (λ (g : Range). Over (span ∷ []) Quiet (is_span g) (left c.args.s.now) (left c.constant-2.new.self)) (λ i. record { low = a i; high = b i })
-    (span_over c.in-ok-low.ensures.read c.in-ok-mark.ensures c.in-ok-high.ensures.read h)
+    (span_over c.in_ok-low.ensures.read c.in_ok-mark.ensures c.in_ok-high.ensures.read h)

@@ -14,46 +14,46 @@ use Rattle.sentences.proofs.Exits.{handed_on}
 use Rattle.sentences.proofs.Siding.{assigned_as}
 use Rattle.sentences.proofs.statements.read_assignment.Goals as goal
 
-pub returns-in-err-name : goal.returns-in-err-name
-returns-in-err-name c =
-    handed_on _ _ c.from-residual.result _ c.from-residual.ensures.1
-    (λ l. turns (λ h k past y. h (one Becomes ∷ right ∷ one Semicolon ∷ k) past tt) c.in-err-name.ensures)
+pub returns-in_err-name : goal.returns-in_err-name
+returns-in_err-name c =
+    handed_on _ _ c.from_residual.result _ c.from_residual.ensures.1
+    (λ l. turns (λ h k past y. h (one Becomes ∷ right ∷ one Semicolon ∷ k) past tt) c.in_err-name.ensures)
 
-pub returns-in-err-k : goal.returns-in-err-k
-returns-in-err-k c =
+pub returns-in_err-k : goal.returns-in_err-k
+returns-in_err-k c =
     let n = c.args.names.now in
-    let h = c.in-err-k.ensures in
+    let h = c.in_err-k.ensures in
     handed_on _ _ c.from-residual-in-err-k.result _ c.from-residual-in-err-k.ensures.1
-    (λ l. turns_at assigning (Starts (vars_of n) (tabs_of n) l) _ _ Undeclared _ h.1 (target_decides (vars_of n) (tabs_of n) c.in-ok-name.ensures false h.0))
+    (λ l. turns_at assigning (Starts (vars_of n) (tabs_of n) l) _ _ Undeclared _ h.1 (target_decides (vars_of n) (tabs_of n) c.in_ok-name.ensures false h.0))
 
-pub returns-in-err-mark : goal.returns-in-err-mark
-returns-in-err-mark c =
+pub returns-in_err-mark : goal.returns-in_err-mark
+returns-in_err-mark c =
     let n = c.args.names.now in
-    let h = c.in-ok-k.ensures in
+    let h = c.in_ok-k.ensures in
     handed_on _ _ c.from-residual-in-err-mark.result _ c.from-residual-in-err-mark.ensures.1
-    (λ l. turns (refuses_becomes (vars_of n) (tabs_of n) c.in-ok-name.ensures h.0 _) c.in-err-mark.ensures)
+    (λ l. turns (refuses_becomes (vars_of n) (tabs_of n) c.in_ok-name.ensures h.0 _) c.in-err-mark.ensures)
 
-pub returns-in-err-right : goal.returns-in-err-right
-returns-in-err-right c =
+pub returns-in_err-right : goal.returns-in_err-right
+returns-in_err-right c =
     let n = c.args.names.now in
-    let h = c.in-ok-k.ensures in
+    let h = c.in_ok-k.ensures in
     handed_on _ _ c.from-residual-in-err-right.result _ c.from-residual-in-err-right.ensures.1
-    (λ l. turns (refuses_side (vars_of n) (tabs_of n) c.in-ok-name.ensures h.0 c.in-ok-mark.ensures _) c.in-err-right.ensures)
+    (λ l. turns (refuses_side (vars_of n) (tabs_of n) c.in_ok-name.ensures h.0 c.in_ok-mark.ensures _) c.in-err-right.ensures)
 
-pub returns-in-err-mark-2 : goal.returns-in-err-mark-2
-returns-in-err-mark-2 c =
+pub returns-in_err-mark-2 : goal.returns-in_err-mark-2
+returns-in_err-mark-2 c =
     let n = c.args.names.now in
-    let h = c.in-ok-k.ensures in
-    let a = c.in-ok-right.ensures in
+    let h = c.in_ok-k.ensures in
+    let a = c.in_ok-right.ensures in
     handed_on _ _ c.from-residual-in-err-mark-2.result _ c.from-residual-in-err-mark-2.ensures.1
-    (λ l. turns (refuses_semicolon (vars_of n) (tabs_of n) c.in-ok-name.ensures h.0 c.in-ok-mark.ensures a.2 _) c.in-err-mark-2.ensures)
+    (λ l. turns (refuses_semicolon (vars_of n) (tabs_of n) c.in_ok-name.ensures h.0 c.in_ok-mark.ensures a.2 _) c.in-err-mark-2.ensures)
 
 pub returns : goal.returns
 returns c =
     let n = c.args.names.now in
-    let h = c.in-ok-k.ensures in
-    let a = c.in-ok-right.ensures in
+    let h = c.in_ok-k.ensures in
+    let a = c.in_ok-right.ensures in
     MatchResult-weaker c.assign.result c.assign.ensures
-    (λ _ e l. stated_assign (vars_of n) (tabs_of n) c.in-ok-name.ensures h.0 c.in-ok-mark.ensures a.2 _ _ _ _ c.in-ok-mark-2.ensures
-    (e ∙ assigned_as (vars_of n) (tabs_of n) _ _ _ c.in-ok-right.right a.0 _ h.1 a.1))
+    (λ _ e l. stated_assign (vars_of n) (tabs_of n) c.in_ok-name.ensures h.0 c.in_ok-mark.ensures a.2 _ _ _ _ c.in_ok-mark-2.ensures
+    (e ∙ assigned_as (vars_of n) (tabs_of n) _ _ _ c.in_ok-right.right a.0 _ h.1 a.1))
     (λ _ e l. by_want e)

@@ -16,7 +16,7 @@ loop-edge-init c = refl
 pub returns-then-edge-point : goal.returns-then-edge-point
 returns-then-edge-point c =
     let es = c.deref-edge-items.result.now in
-    let i = c.loop-edge.edge_index in
+    let i = c.loop-edge.edge-index in
     let q = c.args.point in
     let e = get_or es i nowhere in
     sym (ap (maker q) (sym c.deref-edge-items.ensures.value) ∙ sym c.loop-edge.invariant ∙ ap (maker q) (drop_more es i nowhere c.loop-edge-test.true) ∙
@@ -25,7 +25,7 @@ returns-then-edge-point c =
 pub loop-edge-preserved : goal.loop-edge-preserved
 loop-edge-preserved c =
     let es = c.deref-edge-items.result.now in
-    let i = c.loop-edge.edge_index in
+    let i = c.loop-edge.edge-index in
     let q = c.args.point in
     let e = get_or es i nowhere in
     sym (ap (maker q) (drop_more es i nowhere c.loop-edge-test.true) ∙
@@ -34,6 +34,6 @@ loop-edge-preserved c =
 pub returns : goal.returns
 returns c =
     let es = c.deref-edge-items.result.now in
-    let i = c.loop-edge.edge_index in
+    let i = c.loop-edge.edge-index in
     let q = c.args.point in
     sym (ap (maker q) (sym c.deref-edge-items.ensures.value) ∙ sym c.loop-edge.invariant ∙ ap (maker q) (drop_all i es c.loop-edge-test.false))

@@ -8,9 +8,9 @@ pub returns-in-Some : goal.returns-in-Some
 returns-in-Some c =
     let n = c.args.name.now in
     let i = c.in-Some.i in
-    subst (λ (ns : List (List ℕ)). (among n ns ≡ true) × (i ≡ number_of n ns)) (names_of_tables _ _ c.as-slice.ensures.value) c.in-Some.ensures
+    subst (λ (ns : List (List ℕ)). (among n ns ≡ true) × (i ≡ number_of n ns)) (names_of_tables _ _ c.as_slice.ensures.value) c.in-Some.ensures
 
 pub returns-in-None : goal.returns-in-None
 returns-in-None c =
     let n = c.args.name.now in
-    (subst (λ (ns : List (List ℕ)). among n ns ≡ false) (names_of_tables _ _ c.as-slice.ensures.value) c.in-None.ensures, c.at.ensures)
+    (subst (λ (ns : List (List ℕ)). among n ns ≡ false) (names_of_tables _ _ c.as_slice.ensures.value) c.in-None.ensures, c.at.ensures)

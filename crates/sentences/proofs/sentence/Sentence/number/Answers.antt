@@ -5,7 +5,7 @@ use Rattle.sentences.specs.Models.{left}
 use Rattle.sentences.proofs.Sentences.{turned, no_number}
 use Rattle.sentences.proofs.sentence.Sentence.number.Goals as goal
 
-pub returns-in-default : goal.returns-in-default
-returns-in-default c =
+pub returns-in_default : goal.returns-in_default
+returns-in_default c =
     turned (just any_number ∷ []) c.take.result (left c.args.self.now) (left c.take.new.self) _ c.take.ensures c.unexpected.ensures
-    (no_number c.take.result (left c.take.new.self) c.in-default.not-Number)
+    (no_number c.take.result (left c.take.new.self) c.in_default.not-Number)
