@@ -1,4 +1,6 @@
 // Books of equations: tests, terms and alternatives, what a book is asked, and what its parts are worth at given values.
+#![tactic(auto)]
+
 ghost use Rattle.std.specs.Prelude.{◌≡◌, List, length};
 ghost use Rattle.books.specs.declared.Alternative.{Alternative};
 ghost use Rattle.books.specs.Forms.{Well};

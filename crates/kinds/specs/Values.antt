@@ -57,7 +57,7 @@ small_bound Greatest = true
 
 -- bounds as a kind of value: weights are whole numbers, and the joint test is of the sum
 abbrev pub bounds : Ops Bound ℤ
-bounds = record { least = Least; greatest = Greatest; at_most = under; zero = pos 0; plus = ◌+ℤ◌; lighter = le_z; shift = moved; joint = λ x y t. reaches (added x y) t; sized = small_bound; light = small }
+bounds = record { least = Least; greatest = Greatest; at_most = under; zero = pos 0; plus = ◌+ℤ◌; lighter = int_le; shift = moved; joint = λ x y t. reaches (added x y) t; sized = small_bound; light = small }
 
 -- the whole number of a bound, where it is one
 abbrev pub whole_of : Bound → Option ℤ

@@ -1,4 +1,6 @@
 // Kinds of value: what an analysis computes with, by its operations and their laws; bounds and grades.
+#![tactic(auto)]
+
 ghost use Rattle.std.specs.Prelude.{◌≡◌};
 ghost use Rattle.kinds.specs.Kinds.{Ops, Laws, Made, Sum};
 ghost use Rattle.kinds.specs.Limits.{most_items};

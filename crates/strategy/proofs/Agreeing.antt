@@ -1,5 +1,5 @@
 -- the same calls get the same answers, and all calls can be made
-use Rattle.std.proofs.Common.{◌≡◌, ℕ, zero, suc, ◌+◌, ◌<◌, ◌≤◌, min, Bool, true, false, ◌⊎◌, ◌↔◌, List, [], ◌∷◌, ◌++◌, length, get_or, Some, None, Option, sym, refl, ap, ◌∙◌, subst, ap₂, subst₂, inl, inr, true≢false, arith}
+use Rattle.std.proofs.Common.{◌≡◌, ℕ, ◌+◌, ◌<◌, ◌≤◌, min, Bool, true, false, ◌⊎◌, List, [], ◌∷◌, ◌++◌, length, get_or, None, Option, sym, refl, ap, ◌∙◌, subst, ap₂, inl, inr, true≢false, arith}
 use mathlib.Core.Path.{subst₃}
 use mathlib.Core.List.{head-eq_of_cons-eq, tail-eq_of_cons-eq}
 use native.Mathlib.Decide.{dec_lt, dec_le}
@@ -7,14 +7,14 @@ use Rattle.kinds.specs.Limits.{most_rounds}
 use Rattle.kinds.specs.Kinds.{Ops, Laws}
 use Rattle.books.specs.Books.{at}
 use Rattle.books.specs.Forms.{Well}
-use Rattle.strategy.specs.Solving.{Stage, Settled, Unsettled, Rounds}
+use Rattle.strategy.specs.Solving.{Stage, Settled, Unsettled}
 use Rattle.books.specs.declared.Alternative.{Alternative}
 use Rattle.books.proofs.Order.{bool_cases}
 use Rattle.strategy.specs.Lives.{State, Call, Answer, Event, event, calls, Keeps, begun, Runs, Restarts, Does, Life}
 use Rattle.strategy.specs.Lives.Call.{one_round, run, restart, value_of, choice_of, rounds_shown, question}
 use Rattle.strategy.specs.Lives.Answer.{made, done, value, choice, number, told, refused}
 use Rattle.strategy.specs.Lives.Life.{set_up, after}
-use Rattle.strategy.proofs.Histories.{both_never, earlier, settled_or_not, same_rounds, Ran, ran}
+use Rattle.strategy.proofs.Histories.{both_never, earlier, same_rounds, Ran, ran}
 use Rattle.strategy.proofs.Keeping.{promised}
 
 module _ {V W Q A : Type 0} (o : Ops V W) (m : List (List (Alternative V W))) (ask : State V → Q → A) (l : Laws o) (well : Well o m) where

@@ -2,8 +2,7 @@
 use Rattle.std.proofs.Common.{◌≡◌, ℕ, zero, suc, ◌+◌, ◌<◌, ◌≤◌, false, ◌⊎◌, List, [], ◌∷◌, length, Some, None, Option, sym, ap, ◌∙◌, subst, inl, inr, arith}
 use Rattle.kinds.specs.Limits.{most_items, most_unknowns}
 use Rattle.kinds.specs.Kinds.{Ops, Laws}
-use Rattle.kinds.specs.Kinds.Sum.{none}
-use Rattle.books.specs.Books.{at, holds, term, terms, worth}
+use Rattle.books.specs.Books.{at, term, terms, worth}
 use Rattle.books.specs.Forms.{Light}
 use Rattle.strategy.specs.Strategies.{Passed, Leads, IsValue, Walk, Feasible, Improves}
 use Rattle.strategy.specs.Strategies.Walk.{stay, step}

@@ -1,13 +1,13 @@
 -- what each call does, from what its code has computed
-use Rattle.std.proofs.Common.{◌≡◌, ℕ, ◌+◌, ◌<◌, ◌≤◌, min, true, false, List, [], ◌∷◌, ◌++◌, length, get_or, Some, None, Option, refl, inl, inr, true≢false, arith}
+use Rattle.std.proofs.Common.{◌≡◌, ℕ, ◌+◌, ◌<◌, ◌≤◌, min, true, false, List, [], ◌++◌, length, get_or, None, Option, refl, inl, inr, true≢false, arith}
 use mathlib.Core.Bool.{false≢true}
 use Rattle.kinds.specs.Limits.{most_rounds}
 use Rattle.kinds.specs.Kinds.{Ops}
 use Rattle.books.specs.Books.{at}
 use Rattle.strategy.specs.Solving.{Settled, Unsettled, Rounds}
 use Rattle.books.specs.declared.Alternative.{Alternative}
-use Rattle.strategy.specs.Lives.{State, Call, Answer, Keeps, begun, Runs, Does}
-use Rattle.strategy.specs.Lives.Call.{one_round, run, restart, value_of, choice_of, rounds_shown, question}
+use Rattle.strategy.specs.Lives.{State, Answer, Keeps, begun, Runs, Does}
+use Rattle.strategy.specs.Lives.Call.{run, restart, value_of, choice_of, rounds_shown, question}
 use Rattle.strategy.specs.Lives.Answer.{made, done, value, choice, number, told, refused}
 use Rattle.strategy.proofs.Histories.{both_never}
 

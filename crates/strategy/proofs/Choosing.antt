@@ -1,10 +1,9 @@
 -- improvement of a strategy in the list of entries, one unknown after another
-use Rattle.std.proofs.Common.{◌≡◌, ℕ, ◌+◌, ◌<◌, ◌≤◌, Bool, true, false, cond, not, ◌↔◌, List, [], map, length, get_or, set, Some, None, Option, sym, refl, ap, ◌∙◌, subst, true≢false, not-suc-le-zero, arith, get_or-set_other, get_or-set_same}
+use Rattle.std.proofs.Common.{◌≡◌, ℕ, ◌+◌, ◌<◌, ◌≤◌, Bool, true, false, cond, not, ◌↔◌, List, [], length, get_or, set, None, Option, sym, refl, ap, ◌∙◌, subst, true≢false, not-suc-le-zero, arith, get_or-set_other, get_or-set_same}
 use mathlib.Core.Bool.{false≢true}
 use native.Mathlib.Decide.{ℕ_discrete}
-use Rattle.std.specs.List.{range_with_len}
 use Rattle.std.proofs.lemmas.List.FromFn.{length-map-range_with_len, get_or-map-range_with_len}
-use Rattle.std.proofs.lemmas.List.{length-map, length-set, get_or-map, get_or_past, map-set, set-get_or, ext_get_or}
+use Rattle.std.proofs.lemmas.List.{length-map, get_or-map, map-set, set-get_or, ext_get_or}
 use Rattle.kinds.specs.Limits.{most_items}
 use Rattle.kinds.specs.Kinds.{Ops, Laws, Made}
 use Rattle.books.specs.Books.{at, right, reach, Largest}

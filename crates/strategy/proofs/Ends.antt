@@ -1,18 +1,17 @@
 -- sweeps that may end early, the sizes of what they compute, and that there is a least solution
-use Rattle.std.proofs.Common.{◌≡◌, ℕ, zero, suc, ◌+◌, ◌*◌, ◌<◌, ◌≤◌, Bool, true, false, cond, ◌⊎◌, List, [], ◌∷◌, length, get_or, replicate, Some, None, Option, sym, refl, ap, ◌∙◌, subst, ap₂, inl, inr, le_of_suc-le-suc, not-suc-le-zero, mul-le-mul_right, arith}
+use Rattle.std.proofs.Common.{◌≡◌, ℕ, zero, suc, ◌+◌, ◌*◌, ◌<◌, ◌≤◌, ◌⊎◌, List, [], ◌∷◌, length, get_or, replicate, Some, None, Option, sym, refl, ap, ◌∙◌, subst, ap₂, inl, inr, not-suc-le-zero, mul-le-mul_right, arith}
 use Rattle.kinds.specs.Limits.{most_unknowns}
 use Rattle.kinds.specs.Kinds.{Ops, Laws, Less, Made}
-use Rattle.kinds.specs.Kinds.Sum.{none}
-use Rattle.books.specs.Books.{at, smaller, holds, term, terms, worth, best, right, Solution, HoldsUp, nth}
+use Rattle.books.specs.Books.{at, smaller, term, terms, right, Solution, HoldsUp}
 use Rattle.books.specs.Forms.{Among, Light, WellTerm, Well}
 use Rattle.strategy.specs.Strategies.{Road, IsValue, chosen, pick}
 use Rattle.strategy.specs.Strategies.Road.{ends, stops, goes}
 use Rattle.books.specs.declared.Term.{Term}
 use Rattle.books.specs.declared.Term.TheVariants.{Constant, Shifted}
 use Rattle.books.specs.declared.Alternative.{Alternative}
-use Rattle.books.proofs.Order.{Le, le_or_lt, greater_either}
+use Rattle.books.proofs.Order.{Le, le_or_lt}
 use Rattle.books.proofs.Sizes.{Sizes, made_more, made_terms}
-use Rattle.books.proofs.Worth.{no_option, option_cases, Under, terms_met}
+use Rattle.books.proofs.Worth.{no_option, option_cases, Under}
 use native.Mathlib.Decide.{ℕ_discrete, dec_lt}
 use Rattle.std.proofs.lemmas.List.FromFn.{length-map-range_with_len, get_or-map-range_with_len}
 use Rattle.std.proofs.lemmas.List.{get_or_past}

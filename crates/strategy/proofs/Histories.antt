@@ -1,14 +1,13 @@
 -- chains of counted rounds: joined, compared, and made up to a budget
-use Rattle.std.proofs.Common.{◌≡◌, ℕ, zero, suc, ◌<◌, ◌≤◌, false, ◌⊎◌, List, [], ◌∷◌, ◌++◌, length, Option, sym, refl, ap, ◌∙◌, subst, ap₂, inl, inr, not-suc-le-zero, arith}
+use Rattle.std.proofs.Common.{◌≡◌, ℕ, zero, suc, ◌<◌, ◌≤◌, ◌⊎◌, List, [], ◌∷◌, ◌++◌, length, Option, sym, refl, ap, subst, ap₂, inl, inr, not-suc-le-zero, arith}
 use native.Mathlib.Decide.{ℕ_discrete}
 use Rattle.kinds.specs.Kinds.{Ops, Laws}
-use Rattle.books.specs.Books.{at, right}
 use Rattle.books.specs.Forms.{Well}
 use Rattle.strategy.specs.Solving.{improved, Values, Stage, Settled, Unsettled, Rounds}
 use Rattle.strategy.specs.Solving.Rounds.{start, round}
 use Rattle.strategy.specs.Theory.{Facts}
 use Rattle.books.specs.declared.Alternative.{Alternative}
-use Rattle.books.proofs.Order.{Le, never_both}
+use Rattle.books.proofs.Order.{never_both}
 use Rattle.strategy.proofs.Chains.{rounds_stage}
 use Rattle.strategy.proofs.Ends.{after, after_values, resting_or_not}
 use Rattle.strategy.proofs.Stands.{facts}

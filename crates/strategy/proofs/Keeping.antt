@@ -1,12 +1,12 @@
 -- what each call keeps
-use Rattle.std.proofs.Common.{◌≡◌, ℕ, zero, suc, ◌+◌, ◌<◌, ◌≤◌, min, Bool, true, false, ◌⊎◌, ◌↔◌, List, [], ◌∷◌, ◌++◌, length, Some, None, Option, sym, refl, ap, ◌∙◌, subst, subst₂, inl, inr, true≢false, arith}
+use Rattle.std.proofs.Common.{◌≡◌, ℕ, ◌+◌, ◌<◌, min, Bool, true, false, ◌↔◌, List, [], ◌∷◌, ◌++◌, length, Some, None, Option, sym, refl, ap, ◌∙◌, subst, subst₂, inl, inr, true≢false, arith}
 use mathlib.Core.Path.{subst₃}
 use Rattle.kinds.specs.Limits.{most_rounds}
 use Rattle.kinds.specs.Kinds.{Ops, Laws}
 use Rattle.books.specs.Books.{Solution, HoldsUp}
 use Rattle.books.specs.Forms.{Well}
-use Rattle.strategy.specs.Solving.{Values, Stage, Settled, Rounds, Differ, count}
-use Rattle.strategy.specs.Solving.Rounds.{start, round}
+use Rattle.strategy.specs.Solving.{Values, Stage, Settled, Rounds, count}
+use Rattle.strategy.specs.Solving.Rounds.{start}
 use Rattle.strategy.specs.Theory.{none_chosen, all_least, Below, Facts}
 use Rattle.books.specs.declared.Alternative.{Alternative}
 use Rattle.strategy.proofs.Chains.{rounds_stage, rounds_under}
@@ -16,7 +16,7 @@ use Rattle.strategy.specs.Lives.{State, Call, Answer, Event, event, budget, Keep
 use Rattle.strategy.specs.Lives.Call.{one_round, run, restart, value_of, choice_of, rounds_shown, question}
 use Rattle.strategy.specs.Lives.Answer.{made, done, value, choice, number, told, refused}
 use Rattle.strategy.specs.Lives.Life.{set_up, after}
-use Rattle.strategy.specs.Promises.{counted, since, says, last, Whole, EachWhole, Least, Promises, Always}
+use Rattle.strategy.specs.Promises.{counted, since, says, last, EachWhole, Promises, Always}
 use Rattle.strategy.proofs.Histories.{joined}
 
 -- the rounds that an answer says were made

@@ -1,11 +1,7 @@
 -- the law over lives, put together
-use Rattle.std.proofs.Common.{◌≡◌, List}
 use Rattle.kinds.specs.Kinds.{Ops, Laws}
-use Rattle.books.specs.Forms.{Well}
-use Rattle.books.specs.declared.Alternative.{Alternative}
-use Rattle.strategy.specs.Lives.{State}
 use Rattle.strategy.specs.Lives.Life.{after}
-use Rattle.strategy.specs.Promises.{Lived, LivesStand}
+use Rattle.strategy.specs.Promises.{LivesStand}
 use Rattle.strategy.proofs.Keeping.{promised, always}
 use Rattle.strategy.proofs.Agreeing.{same, every}
 

@@ -1,18 +1,14 @@
 -- steps of loops that compute a right side, the first alternative that reaches it, the improved strategy and the sweeps
-use Rattle.std.proofs.Common.{◌≡◌, ℕ, zero, suc, ◌+◌, ◌-◌, ◌<◌, Bool, cond, List, [], ◌∷◌, ◌++◌, map, length, set, Some, None, Option, sym, refl, ap, ◌∙◌, subst, ⊎_elim, add-one, arith}
-use Rattle.kinds.specs.Kinds.{Ops, Laws, Less}
-use Rattle.kinds.specs.Kinds.Sum.{more}
-use Rattle.books.specs.Books.{smaller, greater, terms, worth, best, right, nth, next, reach}
+use Rattle.std.proofs.Common.{◌≡◌, ℕ, zero, suc, ◌+◌, ◌-◌, ◌<◌, List, [], ◌∷◌, ◌++◌, map, length, set, Some, None, Option, refl, ap, add-one, arith}
+use Rattle.kinds.specs.Kinds.{Ops, Laws}
+use Rattle.books.specs.Books.{terms}
 use Rattle.books.specs.declared.Alternative.{Alternative}
-use Rattle.books.proofs.Order.{Le, le_of_eq, le_trans, greater_left, greater_right, greater_either, smaller_either}
-use Rattle.books.proofs.Worth.{no_option}
 use Rattle.std.specs.List.{range_with_len}
 use Rattle.std.proofs.lemmas.List.FromFn.{map-range_with_len_more}
 use Rattle.books.specs.Forms.{Well}
-use Rattle.strategy.specs.Solving.{switched, improved, Stage, Rounds, count}
+use Rattle.strategy.specs.Solving.{switched, Stage, Rounds, count}
 use Rattle.strategy.specs.Sweeping.{relaxed, relaxed_by, swept, sweeps, opened, opening, Replaced}
 use Rattle.strategy.specs.Sweeping.Replaced.{again}
-use Rattle.strategy.proofs.Theory.{reaches}
 use Rattle.strategy.proofs.Chains.{rounds_few}
 
 module _ {V W : Type 0} (o : Ops V W) (l : Laws o) where

@@ -1,5 +1,5 @@
 -- each call of an analysis, from what its code has computed to the life that goes on with it
-use Rattle.std.proofs.Common.{◌≡◌, ℕ, zero, suc, ◌+◌, ◌<◌, ◌≤◌, min, Bool, true, false, ◌⊎◌, List, [], ◌∷◌, ◌++◌, map, length, get_or, replicate, Some, None, Option, sym, refl, ap, ◌∙◌, subst, inl, inr, arith}
+use Rattle.std.proofs.Common.{◌≡◌, ℕ, zero, suc, ◌+◌, ◌<◌, ◌≤◌, min, Bool, List, [], ◌∷◌, ◌++◌, map, length, get_or, replicate, None, Option, sym, refl, ap, ◌∙◌, subst, inl, arith}
 use Rattle.std.proofs.lemmas.List.{length-map}
 use Rattle.kinds.specs.Limits.{most_rounds}
 use Rattle.kinds.specs.Kinds.{Ops, Laws}
@@ -8,17 +8,16 @@ use Rattle.books.specs.Forms.{Well}
 use Rattle.books.specs.Entries.{values, choices}
 use Rattle.books.specs.declared.Alternative.{Alternative}
 use Rattle.books.specs.declared.Entry.{Entry}
-use Rattle.strategy.specs.Theory.{none_chosen, all_least}
+use Rattle.strategy.specs.Theory.{all_least}
 use Rattle.strategy.specs.Steps.{Ready, Ran}
-use Rattle.strategy.specs.Lives.{State, Call, Answer, Event, event, begun, Runs, Does, Life}
+use Rattle.strategy.specs.Lives.{State, Call, Answer, Event, begun, Runs, Does, Life}
 use Rattle.strategy.specs.Lives.Call.{one_round, run, restart, value_of, choice_of, rounds_shown}
 use Rattle.strategy.specs.Lives.Answer.{made, done, value, choice, number, refused}
 use Rattle.strategy.specs.Lives.Life.{set_up, after}
-use Rattle.strategy.specs.Promises.{Promises}
 use Rattle.strategy.specs.Calls.{state, unasked, fresh_entry, fresh, Begins, Prolongs}
 use Rattle.strategy.proofs.Keeping.{promised}
 use Rattle.strategy.proofs.Turns.{short_rounds}
-use Rattle.strategy.proofs.Calls.{does_refuse, does_restart, does_value, does_no_value, does_choice, does_no_choice, does_rounds}
+use Rattle.strategy.proofs.Calls.{does_refuse, does_value, does_no_value, does_choice, does_no_choice, does_rounds}
 
 map_replicate : {X Y : Type 0} (f : X → Y) (n : ℕ) (d : X) → map f (replicate n d) ≡ replicate n (f d)
 map_replicate f zero d = refl

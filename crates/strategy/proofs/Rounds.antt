@@ -1,8 +1,7 @@
 -- one round: the improved choice, its rings, its values
-use Rattle.std.proofs.Common.{◌≡◌, ℕ, zero, suc, ◌<◌, ◌≤◌, true, false, ◌⊎◌, List, [], ◌∷◌, Some, None, Option, sym, ap, ◌∙◌, subst, inl, inr, ⊎_elim, arith}
+use Rattle.std.proofs.Common.{◌≡◌, ℕ, suc, ◌<◌, ◌≤◌, true, false, ◌⊎◌, List, [], ◌∷◌, Some, None, Option, sym, ap, ◌∙◌, subst, inl, inr, ⊎_elim, arith}
 use Rattle.kinds.specs.Limits.{most_items, most_unknowns}
 use Rattle.kinds.specs.Kinds.{Ops, Laws, Sum, Less}
-use Rattle.kinds.specs.Kinds.Sum.{none}
 use Rattle.books.specs.Books.{at, holds, term, terms, worth}
 use Rattle.books.specs.Forms.{Light}
 use Rattle.strategy.specs.Strategies.{Passed, Unchosen, Leads, Road, IsValue, Walk, Feasible, Improves}

@@ -1,9 +1,7 @@
 -- the theory, put together
 use Rattle.std.proofs.Common.{◌≡◌, ℕ, ◌<◌, ◌⊎◌, List, [], length, get_or, Some, None, Option, sym, ap, ◌∙◌, subst, inl, inr, arith}
-use Rattle.kinds.specs.Limits.{most_unknowns}
-use Rattle.kinds.specs.Kinds.{Ops, Laws, Made}
-use Rattle.kinds.specs.Kinds.Sum.{none}
-use Rattle.books.specs.Books.{at, smaller, terms}
+use Rattle.kinds.specs.Kinds.{Ops, Laws}
+use Rattle.books.specs.Books.{at, terms}
 use Rattle.books.specs.Forms.{Light, Well}
 use Rattle.strategy.specs.Strategies.{chosen, pick}
 use Rattle.books.specs.declared.Alternative.{Alternative}

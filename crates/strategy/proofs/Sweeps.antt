@@ -2,8 +2,7 @@
 use Rattle.std.proofs.Common.{◌≡◌, ℕ, zero, suc, ◌<◌, ◌≤◌, false, ◌⊎◌, List, [], ◌∷◌, length, Some, None, Option, sym, refl, ap, ◌∙◌, subst, inl, inr, not-suc-le-zero, arith, length-set, get_or-set_other, get_or-set_same}
 use Rattle.kinds.specs.Limits.{most_items, most_unknowns}
 use Rattle.kinds.specs.Kinds.{Ops, Laws, Sum}
-use Rattle.kinds.specs.Kinds.Sum.{none, more}
-use Rattle.books.specs.Books.{at, smaller, term, terms}
+use Rattle.books.specs.Books.{at, term, terms}
 use Rattle.books.specs.Forms.{Light}
 use Rattle.strategy.specs.Strategies.{Passed, Unchosen, Leads, Road, IsValue, Walk}
 use Rattle.strategy.specs.Strategies.Road.{ends, stops, goes}

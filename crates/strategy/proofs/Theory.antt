@@ -3,7 +3,6 @@ use Rattle.std.proofs.Common.{◌≡◌, ℕ, zero, suc, ◌<◌, ◌≤◌, Boo
 use lib.ListN.{length-replicate, get_or-replicate}
 use Rattle.kinds.specs.Limits.{most_items}
 use Rattle.kinds.specs.Kinds.{Ops, Laws, Less}
-use Rattle.kinds.specs.Kinds.Sum.{none}
 use Rattle.books.specs.Books.{at, terms, worth, best, right, Solution, HoldsUp, nth, next, reach}
 use Rattle.books.specs.Forms.{Light, Well}
 use Rattle.strategy.specs.Strategies.{Unchosen, Leads, IsValue, Walk, Improves, chosen, pick}
@@ -17,7 +16,6 @@ use Rattle.std.proofs.lemmas.List.FromFn.{length-map-range_with_len, get_or-map-
 use Rattle.std.proofs.lemmas.List.{get_or_past}
 use Rattle.strategy.specs.Solving.{switched, improved, Values, Stage, Settled}
 use Rattle.strategy.specs.Sweeping.{sweeps, opening}
-use Rattle.strategy.specs.Solving.Rounds.{start, round}
 use Rattle.strategy.proofs.Walks.{road_chosen}
 use Rattle.strategy.proofs.Rounds.{same_some, Better, better, named_chosen, rings_after, bellman_after, rises, rises_strictly, feasible_after}
 use Rattle.strategy.proofs.Bounds.{stays_under}

@@ -3,7 +3,7 @@ use Rattle.std.proofs.Common.{◌≡◌, ℕ, zero, suc, ◌<◌, ◌≤◌, tru
 use Rattle.kinds.specs.Limits.{most_items}
 use Rattle.kinds.specs.Kinds.{Ops, Laws, Sum, Less, Addable}
 use Rattle.kinds.specs.Kinds.Sum.{none, more}
-use Rattle.books.specs.Books.{at, terms}
+use Rattle.books.specs.Books.{at}
 use Rattle.books.specs.Forms.{Light}
 use Rattle.strategy.specs.Strategies.{Passed, Leads, Road, IsValue, Walk}
 use Rattle.strategy.specs.Strategies.Road.{ends, stops, goes}

@@ -1,5 +1,5 @@
 -- Rounds of strategy improvement: what switches, which values follow, when it is settled, and how many rounds there can be.
-use Rattle.std.specs.Prelude.{◌≡◌, ℕ, zero, suc, ◌*◌, ◌<◌, ◌≤◌, true, cond, ◌⊎◌, List, [], ◌∷◌, map, length, Some, None, Option, slice_index_or}
+use Rattle.std.specs.Prelude.{◌≡◌, ℕ, suc, ◌*◌, ◌<◌, true, cond, ◌⊎◌, List, [], ◌∷◌, map, length, Some, None, Option, slice_index_or}
 use Rattle.std.specs.List.{range_with_len}
 use Rattle.kinds.specs.Kinds.{Ops, Less}
 use Rattle.books.specs.Books.{at, right, reach}

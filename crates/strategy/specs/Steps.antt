@@ -1,5 +1,5 @@
 -- What the parts of a round do to the list of entries.
-use Rattle.std.specs.Prelude.{◌≡◌, ℕ, ◌<◌, ◌≤◌, Bool, true, false, not, ◌↔◌, List, map, length, Some, None, Option, slice_set}
+use Rattle.std.specs.Prelude.{◌≡◌, ℕ, ◌≤◌, Bool, true, false, not, ◌↔◌, List, map, length, Some, None, Option, slice_set}
 use Rattle.kinds.specs.Kinds.{Ops}
 use Rattle.books.specs.Books.{at, right}
 use Rattle.books.specs.Entries.{values, choices, Short}

@@ -1,13 +1,12 @@
 -- What is proved of strategy improvement, for each kind of value and each well-formed book.
-use Rattle.std.specs.Prelude.{◌≡◌, ℕ, zero, suc, ◌+◌, ◌*◌, ◌<◌, ◌≤◌, true, false, ◌↔◌, List, [], ◌∷◌, length, get_or, replicate, Some, None, Option}
+use Rattle.std.specs.Prelude.{◌≡◌, ℕ, suc, ◌+◌, ◌*◌, ◌<◌, ◌≤◌, true, false, ◌↔◌, List, ◌∷◌, length, replicate, Some, None, Option}
 use Rattle.kinds.specs.Limits.{most_items, most_unknowns}
 use Rattle.kinds.specs.Kinds.{Ops, Less, Made}
-use Rattle.books.specs.Books.{at, right, worth, holds, term, terms, Solution, HoldsUp, nth}
-use Rattle.books.specs.Forms.{Among, Well}
+use Rattle.books.specs.Books.{at, right, worth, holds, terms, Solution, HoldsUp}
+use Rattle.books.specs.Forms.{Well}
 use Rattle.strategy.specs.Strategies.{chosen, Unchosen, Leads, Walk}
 use Rattle.strategy.specs.Solving.{improved, Values, Stage, Settled, Rounds, Differ, count}
 use Rattle.strategy.specs.Sweeping.{swept, sweeps, opening, Replaced}
-use Rattle.books.specs.declared.Term.{Term}
 use Rattle.books.specs.declared.Term.TheVariants.{Shifted}
 use Rattle.books.specs.declared.Alternative.{Alternative}
 

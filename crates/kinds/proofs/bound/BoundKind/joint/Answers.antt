@@ -9,7 +9,7 @@ pub returns-in-Least : goal.returns-in-Least
 returns-in-Least c x y t =
     ap (λ (s : Bound). reaches s c.args.threshold) (c.in-Least.ensures (made_sized x) (made_sized y))
 
-pub returns-in-default : goal.returns-in-default
-returns-in-default c x y t =
-    c.depth_under.ensures ∙ above_least c.plus.result c.args.threshold c.in-default.not-Least
+pub returns-in_default : goal.returns-in_default
+returns-in_default c x y t =
+    c.lies_under.ensures ∙ above_least c.plus.result c.args.threshold c.in_default.not-Least
     ∙ ap (λ (s : Bound). reaches s c.args.threshold) (c.plus.ensures (made_sized x) (made_sized y))
