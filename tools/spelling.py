@@ -16,7 +16,7 @@ HEAD = re.compile(r"^\s*(?:pub |abbrev |data |record )*(" + TOKEN + r")((?:[ ,]+
 TYPE = re.compile(r"^\s*(?:pub )?(?:data|record) (" + TOKEN + r")")
 MADE = re.compile(r"^(returns|loop|invariant|decreases|slice-bounds|part-requires|index-(from|to)-requires|read-\w+-(returns|loop))-|-returns-|-loop-")
 # names that would fall together with another, and types that began with a small letter
-OTHERS = {"At-most": "AtMostGuard", "At-least": "AtLeastGuard", "lies-under": "depth_under", "a-table": "ATable", "Block-words": "block_words", "at_least_lem": "at_least"}
+OTHERS = {"At-most": "AtMostGuard", "At-least": "AtLeastGuard", "lies-under": "depth_under", "a-table": "ATable", "Block-words": "block_words", "Goes_on": "GoesOn", "at_least_lem": "at_least"}
 KIT = re.compile(r"\b(?:use|open)\b[^;{]*\bRattle\.(?:std|core)\.[^{;]*\{([^}]*)\}")
 # code of one line: strings and comments are told apart from what they stand in
 PART = re.compile(r'"(?:[^"\\]|\\.)*"|' + "--(?= |$).*|//.*|" + TOKEN + r"|.", re.S)

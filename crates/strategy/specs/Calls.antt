@@ -10,7 +10,7 @@ use Rattle.books.specs.Forms.{Well}
 use Rattle.books.specs.declared.Alternative.{Alternative}
 use Rattle.books.specs.declared.Entry.{Entry}
 use Rattle.strategy.specs.Lives.{State, Call, Answer, Life}
-use Rattle.strategy.specs.Promises.{Promises, Goes_on}
+use Rattle.strategy.specs.Promises.{Promises, GoesOn}
 
 -- the state of an analysis with this list and this count of rounds
 abbrev pub state : {V : Type 0} → List (Entry V) → ℕ → State V
@@ -43,7 +43,7 @@ pub record Begins {V W : Type 0} (o : Ops V W) (m : List (List (Alternative V W)
 
 -- the call c, answered by a, from the state s to the state s', in every life of an analysis of the book m
 abbrev pub Prolongs : {V W : Type 0} → Ops V W → List (List (Alternative V W)) → Call ⊥ → Answer V ⊥ → State V → State V → Type 0
-Prolongs o m c a s s' = Goes_on o m unasked c a s s'
+Prolongs o m c a s s' = GoesOn o m unasked c a s s'
 
 -- the same, whatever the book
 abbrev pub ProlongsAny : {V W : Type 0} → Ops V W → Call ⊥ → Answer V ⊥ → State V → State V → Type 0

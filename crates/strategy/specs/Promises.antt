@@ -86,15 +86,15 @@ module _ {V W Q A : Type 0} (o : Ops V W) (m : List (List (Alternative V W))) (a
   Always (after {h = h} {ss' = ss'} {s' = s'} c a l d) = Always l × Promises o m (event c a ∷ h) ss' s'
 
   -- the call c, answered by a, carries every life that leads to s on to s', and the promises hold there: what the contract of a call says
-  abbrev pub Goes_on : Call Q → Answer V A → State V → State V → Type 0
-  Goes_on c a s s' = (h : List (Event Q V A)) (ss : List (List (Option ℕ))) → Life o m ask h ss s → (ss' : List (List (Option ℕ))) × Life o m ask (event c a ∷ h) ss' s' × Promises o m (event c a ∷ h) ss' s'
+  abbrev pub GoesOn : Call Q → Answer V A → State V → State V → Type 0
+  GoesOn c a s s' = (h : List (Event Q V A)) (ss : List (List (Option ℕ))) → Life o m ask h ss s → (ss' : List (List (Option ℕ))) × Life o m ask (event c a ∷ h) ss' s' × Promises o m (event c a ∷ h) ss' s'
 
   -- what is proved of the lives of the analyses of a book: the promises; the same calls get the same answers and come to the same state; and all calls can be made
   pub record Lived : Type 0 where
     pub promised : (h : List (Event Q V A)) (ss : List (List (Option ℕ))) (s : State V) → Life o m ask h ss s → Promises o m h ss s
     pub always : (h : List (Event Q V A)) (ss : List (List (Option ℕ))) (s : State V) (l : Life o m ask h ss s) → Always l
     pub same : (h h' : List (Event Q V A)) (ss ss' : List (List (Option ℕ))) (s s' : State V) → Life o m ask h ss s → Life o m ask h' ss' s' → calls h ≡ calls h' → (h ≡ h') × (ss ≡ ss') × (s ≡ s')
-    pub goes_on : (c : Call Q) (a : Answer V A) (s s' : State V) → ((ss : List (List (Option ℕ))) → (ss' : List (List (Option ℕ))) × Does o m ask c ss s a ss' s') → Goes_on c a s s'
+    pub goes_on : (c : Call Q) (a : Answer V A) (s s' : State V) → ((ss : List (List (Option ℕ))) → (ss' : List (List (Option ℕ))) × Does o m ask c ss s a ss' s') → GoesOn c a s s'
     pub every : (cs : List (Call Q)) → (h : List (Event Q V A)) × (ss : List (List (Option ℕ))) × (s : State V) × Life o m ask h ss s × (calls h ≡ cs)
 
 -- all of it holds of every well-formed book, whatever is asked besides
