@@ -15,43 +15,43 @@ use Rattle.sentences.proofs.read_outline.Goals as goal
 laws : GrammarStands × VerdictsStand × GraphsStand
 laws = (grammar_stands, verdicts_stand, graphs_stand)
 
-pub returns-then-script-gt-MOST-BYTES : goal.returns-then-script-gt-MOST-BYTES
-returns-then-script-gt-MOST-BYTES c = record { verdict = by_verdict (too_long c.if-script-gt-MOST-BYTES.true); laws = laws; examples = examples }
+pub returns-then-script-gt-MOST_BYTES : goal.returns-then-script-gt-MOST_BYTES
+returns-then-script-gt-MOST_BYTES c = record { verdict = by_verdict (too_long c.if-script-gt-MOST_BYTES.true); laws = laws; examples = examples }
 
-pub returns-in-err-names : goal.returns-in-err-names
-returns-in-err-names c =
+pub returns-in_err-names : goal.returns-in_err-names
+returns-in_err-names c =
     let bs = c.args.script.now in
     let t = left c.new-sentence.result in
     record {
-      verdict = outlined_err bs c.from-residual.result _ c.from-residual.ensures.1
-          (turned_back bs t _ c.if-script-gt-MOST-BYTES.false c.new-sentence.ensures (refuses_heads t _) c.in-err-names.ensures);
+      verdict = outlined_err bs c.from_residual.result _ c.from_residual.ensures.1
+          (turned_back bs t _ c.if-script-gt-MOST_BYTES.false c.new-sentence.ensures (refuses_heads t _) c.in_err-names.ensures);
       laws = laws;
       examples = examples;
     }
 
-pub returns-in-err-read-statements : goal.returns-in-err-read-statements
-returns-in-err-read-statements c =
+pub returns-in_err-read_statements : goal.returns-in_err-read_statements
+returns-in_err-read_statements c =
     let bs = c.args.script.now in
     let t = left c.new-sentence.result in
-    let h = c.in-ok-names.ensures in
+    let h = c.in_ok-names.ensures in
     record {
-      verdict = outlined_err bs c.from-residual-in-err-read-statements.result _ c.from-residual-in-err-read-statements.ensures.1
-          (turned_back bs t _ c.if-script-gt-MOST-BYTES.false c.new-sentence.ensures (refuses_body h.0 h.1 _) c.in-err-read-statements.ensures);
+      verdict = outlined_err bs c.from_residual-in_err-read_statements.result _ c.from_residual-in_err-read_statements.ensures.1
+          (turned_back bs t _ c.if-script-gt-MOST_BYTES.false c.new-sentence.ensures (refuses_body h.0 h.1 _) c.in_err-read_statements.ensures);
       laws = laws;
       examples = examples;
     }
 
-pub returns-in-err-end : goal.returns-in-err-end
-returns-in-err-end c =
+pub returns-in_err-end : goal.returns-in_err-end
+returns-in_err-end c =
     let bs = c.args.script.now in
     let t = left c.new-sentence.result in
-    let n = c.in-ok-names.names in
-    let h = c.in-ok-names.ensures in
-    let b = c.in-ok-read-statements.ensures in
-    let s = subst (λ (d : graphs.Drawing). Stated (vars_of n) (tabs_of n) 8 (left c.read-declarations.new.s) (left c.read-statements.new.s) d (drawn_so c.read-statements.new.d)) c.new-drawing.ensures b.0 in
+    let n = c.in_ok-names.names in
+    let h = c.in_ok-names.ensures in
+    let b = c.in_ok-read_statements.ensures in
+    let s = subst (λ (d : graphs.Drawing). Stated (vars_of n) (tabs_of n) 8 (left c.read_declarations.new.s) (left c.read_statements.new.s) d (drawn_so c.read_statements.new.d)) c.new-drawing.ensures b.0 in
     record {
-      verdict = outlined_err bs c.from-residual-in-err-end.result _ c.from-residual-in-err-end.ensures.1
-          (unended bs t _ c.if-script-gt-MOST-BYTES.false c.new-sentence.ensures (refuses_rest h.0 h.1 s b.1 _) c.in-err-end.ensures);
+      verdict = outlined_err bs c.from_residual-in_err-end.result _ c.from_residual-in_err-end.ensures.1
+          (unended bs t _ c.if-script-gt-MOST_BYTES.false c.new-sentence.ensures (refuses_rest h.0 h.1 s b.1 _) c.in_err-end.ensures);
       laws = laws;
       examples = examples;
     }
@@ -59,21 +59,21 @@ returns-in-err-end c =
 pub returns-in-Some : goal.returns-in-Some
 returns-in-Some c =
     let bs = c.args.script.now in
-    let n = c.in-ok-names.names in
-    let h = c.in-ok-names.ensures in
-    let b = c.in-ok-read-statements.ensures in
-    let s = subst (λ (d : graphs.Drawing). Stated (vars_of n) (tabs_of n) 8 (left c.read-declarations.new.s) (left c.read-statements.new.s) d (drawn_so c.read-statements.new.d)) c.new-drawing.ensures b.0 in
-    let e = c.in-ok-end.ensures in
-    let v = verdict_many h.0 h.1 s b.1 e.1 bs c.if-script-gt-MOST-BYTES.false c.new-sentence.ensures c.in-Some.place (sym c.in-Some.ensures) in
+    let n = c.in_ok-names.names in
+    let h = c.in_ok-names.ensures in
+    let b = c.in_ok-read_statements.ensures in
+    let s = subst (λ (d : graphs.Drawing). Stated (vars_of n) (tabs_of n) 8 (left c.read_declarations.new.s) (left c.read_statements.new.s) d (drawn_so c.read_statements.new.d)) c.new-drawing.ensures b.0 in
+    let e = c.in_ok-end.ensures in
+    let v = verdict_many h.0 h.1 s b.1 e.1 bs c.if-script-gt-MOST_BYTES.false c.new-sentence.ensures c.in-Some.place (sym c.in-Some.ensures) in
     record { verdict = subst (RefusedAs bs) (sym c.at.ensures) (by_verdict v); laws = laws; examples = examples }
 
 pub returns : goal.returns
 returns c =
     let bs = c.args.script.now in
-    let n = c.in-ok-names.names in
-    let h = c.in-ok-names.ensures in
-    let b = c.in-ok-read-statements.ensures in
-    let s = subst (λ (d : graphs.Drawing). Stated (vars_of n) (tabs_of n) 8 (left c.read-declarations.new.s) (left c.read-statements.new.s) d (drawn_so c.read-statements.new.d)) c.new-drawing.ensures b.0 in
-    let e = c.in-ok-end.ensures in
-    let v = verdict_fine h.0 h.1 s b.1 e.1 bs c.if-script-gt-MOST-BYTES.false c.new-sentence.ensures (sym c.in-default.ensures) in
+    let n = c.in_ok-names.names in
+    let h = c.in_ok-names.ensures in
+    let b = c.in_ok-read_statements.ensures in
+    let s = subst (λ (d : graphs.Drawing). Stated (vars_of n) (tabs_of n) 8 (left c.read_declarations.new.s) (left c.read_statements.new.s) d (drawn_so c.read_statements.new.d)) c.new-drawing.ensures b.0 in
+    let e = c.in_ok-end.ensures in
+    let v = verdict_fine h.0 h.1 s b.1 e.1 bs c.if-script-gt-MOST_BYTES.false c.new-sentence.ensures (sym c.in_default.ensures) in
     record { verdict = v; laws = laws; examples = examples }

@@ -19,7 +19,7 @@ pub returns-in_err-left : goal.returns-in_err-left
 returns-in_err-left c =
     let n = c.args.names.now in
     let h = c.in_err-left.ensures in
-    handed_on _ _ c.from-residual-in-err-left.result _ c.from-residual-in-err-left.ensures.1
+    handed_on _ _ c.from_residual-in_err-left.result _ c.from_residual-in_err-left.ensures.1
     (turns_at (condition ∷ []) (KnowsAsks (vars_of n) (tabs_of n)) _ _ Undeclared _ h.1
     (left_decides (vars_of n) (tabs_of n) c.in_ok-name.ensures false h.0))
 
@@ -27,16 +27,16 @@ pub returns-in_err-order : goal.returns-in_err-order
 returns-in_err-order c =
     let n = c.args.names.now in
     let h = c.in_ok-left.ensures in
-    handed_on _ _ c.from-residual-in-err-order.result _ c.from-residual-in-err-order.ensures.1
-    (turns (refuses_order (vars_of n) (tabs_of n) c.in_ok-name.ensures h.0 _) c.in-err-order.ensures)
+    handed_on _ _ c.from_residual-in_err-order.result _ c.from_residual-in_err-order.ensures.1
+    (turns (refuses_order (vars_of n) (tabs_of n) c.in_ok-name.ensures h.0 _) c.in_err-order.ensures)
 
 pub returns-in_err-right : goal.returns-in_err-right
 returns-in_err-right c =
     let n = c.args.names.now in
     let h = c.in_ok-left.ensures in
     let o = c.in_ok-order.ensures in
-    handed_on _ _ c.from-residual-in-err-right.result _ c.from-residual-in-err-right.ensures.1
-    (turns (refuses_right (vars_of n) (tabs_of n) c.in_ok-name.ensures h.0 o.2 _) c.in-err-right.ensures)
+    handed_on _ _ c.from_residual-in_err-right.result _ c.from_residual-in_err-right.ensures.1
+    (turns (refuses_right (vars_of n) (tabs_of n) c.in_ok-name.ensures h.0 o.2 _) c.in_err-right.ensures)
 
 pub returns : goal.returns
 returns c =

@@ -21,7 +21,7 @@ pub returns-in_err-k : goal.returns-in_err-k
 returns-in_err-k c =
     let n = c.args.names.now in
     let h = c.in_err-k.ensures in
-    handed_on _ _ c.from-residual-in-err-k.result _ c.from-residual-in-err-k.ensures.1
+    handed_on _ _ c.from_residual-in_err-k.result _ c.from_residual-in_err-k.ensures.1
     (turns_at (operand ∷ []) (KnowsCompares (vars_of n) (tabs_of n) c.args.left.now) _ _ Undeclared _ h.1
     (against_decides (vars_of n) (tabs_of n) c.args.left.now c.in_ok-name.name.now c.in_ok-name.place _ _ false _ c.in_ok-name.ensures h.0 refl))
 
@@ -45,8 +45,8 @@ returns-then-at_name c =
 pub returns-in_err-c : goal.returns-in_err-c
 returns-in_err-c c =
     let n = c.args.names.now in
-    handed_on _ _ c.from-residual-in-err-c.result _ c.from-residual-in-err-c.ensures.1
-    (turns (refuses_limit (vars_of n) (tabs_of n) c.args.left.now (left c.args.s.now) _ (sym c.if-at_name.ensures)) c.in-err-c.ensures.read)
+    handed_on _ _ c.from_residual-in_err-c.result _ c.from_residual-in_err-c.ensures.1
+    (turns (refuses_limit (vars_of n) (tabs_of n) c.args.left.now (left c.args.s.now) _ (sym c.if-at_name.ensures)) c.in_err-c.ensures.read)
 
 pub returns : goal.returns
 returns c =

@@ -17,14 +17,14 @@ loop-heap-init c =
     subst (λ (vs : List graphs.Variable). Declared vs (tabs_of c.new-names.result) t t) (sym e.0) (subst (λ (ts : List graphs.Table). Declared [] ts t t) (sym e.1) (declared_none t))
 
 pub loop-heap-smaller : goal.loop-heap-smaller
-loop-heap-smaller c = shorter c.in-ok-read-declaration.ensures
+loop-heap-smaller c = shorter c.in_ok-read_declaration.ensures
 
 pub loop-heap-preserved : goal.loop-heap-preserved
-loop-heap-preserved c = declared_more c.loop-heap.invariant c.in-ok-read-declaration.ensures
+loop-heap-preserved c = declared_more c.loop-heap.invariant c.in_ok-read_declaration.ensures
 
 pub returns-in_err-read_declaration : goal.returns-in_err-read_declaration
 returns-in_err-read_declaration c =
     let i = c.loop-heap.invariant in
     let t = left c.args.s.now in
-    handed_on _ _ c.from-residual.result _ c.from-residual.ensures.1
-    (turns (λ r k past y. ap (λ (z : List Word). refusal (heads ∷ k) z t) y ∙ i.goes k ∙ r k _ i.starts) (c.in-err-read-declaration.ensures (sym c.loop-heap-test.ensures)))
+    handed_on _ _ c.from_residual.result _ c.from_residual.ensures.1
+    (turns (λ r k past y. ap (λ (z : List Word). refusal (heads ∷ k) z t) y ∙ i.goes k ∙ r k _ i.starts) (c.in_err-read_declaration.ensures (sym c.loop-heap-test.ensures)))

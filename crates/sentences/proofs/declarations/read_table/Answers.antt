@@ -20,9 +20,9 @@ returns-in_err-mark c =
 pub returns-in_err-name : goal.returns-in_err-name
 returns-in_err-name c =
     let n = c.args.names.now in
-    handed_on _ _ c.from-residual-in-err-name.result _ c.from-residual-in-err-name.ensures.1
+    handed_on _ _ c.from_residual-in_err-name.result _ c.from_residual-in_err-name.ensures.1
     (turns (refuses_table_name (vars_of n) (tabs_of n) c.in_ok-mark.ensures _ (counted table_of (vec_items n.tables) c.len-full.result (c.len-full.ensures ∙ n.tables.ok.0)) _)
-    c.in-err-name.ensures)
+    c.in_err-name.ensures)
 
 pub returns-in_err-mark-2 : goal.returns-in_err-mark-2
 returns-in_err-mark-2 c =
@@ -30,7 +30,7 @@ returns-in_err-mark-2 c =
     let m = c.in_ok-mark.ensures in
     let w = c.in_ok-name.ensures in
     let i = counted table_of (vec_items n.tables) c.len-full.result (c.len-full.ensures ∙ n.tables.ok.0) ∙ w.3 in
-    handed_on _ _ c.from-residual-in-err-mark-2.result _ c.from-residual-in-err-mark-2.ensures.1 (turns (refuses_open (vars_of n) (tabs_of n) m w.1 w.2 i _) c.in-err-mark-2.ensures)
+    handed_on _ _ c.from_residual-in_err-mark-2.result _ c.from_residual-in_err-mark-2.ensures.1 (turns (refuses_open (vars_of n) (tabs_of n) m w.1 w.2 i _) c.in_err-mark-2.ensures)
 
 pub returns-in_err-size : goal.returns-in_err-size
 returns-in_err-size c =
@@ -38,7 +38,7 @@ returns-in_err-size c =
     let m = c.in_ok-mark.ensures in
     let w = c.in_ok-name.ensures in
     let i = counted table_of (vec_items n.tables) c.len-full.result (c.len-full.ensures ∙ n.tables.ok.0) ∙ w.3 in
-    handed_on _ _ c.from-residual-in-err-size.result _ c.from-residual-in-err-size.ensures.1 (turns (refuses_size (vars_of n) (tabs_of n) m w.1 w.2 i c.in_ok-mark-2.ensures _) c.in-err-size.ensures)
+    handed_on _ _ c.from_residual-in_err-size.result _ c.from_residual-in_err-size.ensures.1 (turns (refuses_size (vars_of n) (tabs_of n) m w.1 w.2 i c.in_ok-mark-2.ensures _) c.in_err-size.ensures)
 
 pub returns-then-wrong_size : goal.returns-then-wrong_size
 returns-then-wrong_size c =
@@ -56,7 +56,7 @@ returns-in_err-mark-3 c =
     let w = c.in_ok-name.ensures in
     let i = counted table_of (vec_items n.tables) c.len-full.result (c.len-full.ensures ∙ n.tables.ok.0) ∙ w.3 in
     let s = sym c.if-wrong_size.ensures in
-    handed_on _ _ c.from-residual-in-err-mark-3.result _ c.from-residual-in-err-mark-3.ensures.1 (turns (refuses_close (vars_of n) (tabs_of n) m w.1 w.2 i c.in_ok-mark-2.ensures c.in_ok-size.ensures s _) c.in-err-mark-3.ensures)
+    handed_on _ _ c.from_residual-in_err-mark-3.result _ c.from_residual-in_err-mark-3.ensures.1 (turns (refuses_close (vars_of n) (tabs_of n) m w.1 w.2 i c.in_ok-mark-2.ensures c.in_ok-size.ensures s _) c.in_err-mark-3.ensures)
 
 pub returns-in_err-mark-4 : goal.returns-in_err-mark-4
 returns-in_err-mark-4 c =
@@ -65,7 +65,7 @@ returns-in_err-mark-4 c =
     let w = c.in_ok-name.ensures in
     let i = counted table_of (vec_items n.tables) c.len-full.result (c.len-full.ensures ∙ n.tables.ok.0) ∙ w.3 in
     let s = sym c.if-wrong_size.ensures in
-    handed_on _ _ c.from-residual-in-err-mark-4.result _ c.from-residual-in-err-mark-4.ensures.1 (turns (refuses_table_equals (vars_of n) (tabs_of n) m w.1 w.2 i c.in_ok-mark-2.ensures c.in_ok-size.ensures s c.in_ok-mark-3.ensures _) c.in-err-mark-4.ensures)
+    handed_on _ _ c.from_residual-in_err-mark-4.result _ c.from_residual-in_err-mark-4.ensures.1 (turns (refuses_table_equals (vars_of n) (tabs_of n) m w.1 w.2 i c.in_ok-mark-2.ensures c.in_ok-size.ensures s c.in_ok-mark-3.ensures _) c.in_err-mark-4.ensures)
 
 pub returns-in_err-range : goal.returns-in_err-range
 returns-in_err-range c =
@@ -74,7 +74,7 @@ returns-in_err-range c =
     let w = c.in_ok-name.ensures in
     let i = counted table_of (vec_items n.tables) c.len-full.result (c.len-full.ensures ∙ n.tables.ok.0) ∙ w.3 in
     let s = sym c.if-wrong_size.ensures in
-    handed_on _ _ c.from-residual-in-err-range.result _ c.from-residual-in-err-range.ensures.1 (turns (refuses_table_range (vars_of n) (tabs_of n) m w.1 w.2 i c.in_ok-mark-2.ensures c.in_ok-size.ensures s c.in_ok-mark-3.ensures c.in_ok-mark-4.ensures _) c.in-err-range.ensures)
+    handed_on _ _ c.from_residual-in_err-range.result _ c.from_residual-in_err-range.ensures.1 (turns (refuses_table_range (vars_of n) (tabs_of n) m w.1 w.2 i c.in_ok-mark-2.ensures c.in_ok-size.ensures s c.in_ok-mark-3.ensures c.in_ok-mark-4.ensures _) c.in_err-range.ensures)
 
 pub returns-in_err-mark-5 : goal.returns-in_err-mark-5
 returns-in_err-mark-5 c =
@@ -83,7 +83,7 @@ returns-in_err-mark-5 c =
     let w = c.in_ok-name.ensures in
     let i = counted table_of (vec_items n.tables) c.len-full.result (c.len-full.ensures ∙ n.tables.ok.0) ∙ w.3 in
     let s = sym c.if-wrong_size.ensures in
-    handed_on _ _ c.from-residual-in-err-mark-5.result _ c.from-residual-in-err-mark-5.ensures.1 (turns (refuses_table_end (vars_of n) (tabs_of n) m w.1 w.2 i c.in_ok-mark-2.ensures c.in_ok-size.ensures s c.in_ok-mark-3.ensures c.in_ok-mark-4.ensures c.in_ok-range.ensures _) c.in-err-mark-5.ensures)
+    handed_on _ _ c.from_residual-in_err-mark-5.result _ c.from_residual-in_err-mark-5.ensures.1 (turns (refuses_table_end (vars_of n) (tabs_of n) m w.1 w.2 i c.in_ok-mark-2.ensures c.in_ok-size.ensures s c.in_ok-mark-3.ensures c.in_ok-mark-4.ensures c.in_ok-range.ensures _) c.in_err-mark-5.ensures)
 
 pub returns : goal.returns
 returns c =
@@ -94,4 +94,4 @@ returns c =
     let s = sym c.if-wrong_size.ensures in
     declares_table (vars_of n) (tabs_of n) m w.1 w.2 i c.in_ok-mark-2.ensures c.in_ok-size.ensures s c.in_ok-mark-3.ensures c.in_ok-mark-4.ensures c.in_ok-range.ensures _ _ c.in_ok-mark-5.ensures _
     (more_tables (vec_items n.tables) (vec_items c.push.new.self) (record { name = c.in_ok-name-2.name; size = c.in_ok-size.size; range = c.in_ok-range.range })
-    c.in_ok-name.name.now c.in-ok-push.ensures.items c.in_ok-name-2.ensures.made.0) _ refl
+    c.in_ok-name.name.now c.in_ok-push.ensures.items c.in_ok-name-2.ensures.items) _ refl

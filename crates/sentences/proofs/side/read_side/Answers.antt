@@ -32,8 +32,8 @@ pub returns-in_err-read_range-2 : goal.returns-in_err-read_range-2
 returns-in_err-read_range-2 c =
     let n = c.args.names.now in
     let m = taken_mark Sense _ (left c.args.s.now) (left c.take-then-at-2.new.self) c.take-then-at-2.ensures (sym c.if-at-2.ensures) in
-    handed_on _ _ c.from-residual-in-err-read-range-2.result _ c.from-residual-in-err-read-range-2.ensures.1
-    (turns (refuses_any (vars_of n) (tabs_of n) sensed m.1 _) c.in-err-read-range-2.ensures)
+    handed_on _ _ c.from_residual-in_err-read_range-2.result _ c.from_residual-in_err-read_range-2.ensures.1
+    (turns (refuses_any (vars_of n) (tabs_of n) sensed m.1 _) c.in_err-read_range-2.ensures)
 
 pub returns-then-at-2 : goal.returns-then-at-2
 returns-then-at-2 c =

@@ -4,27 +4,27 @@ use Rattle.language.specs.Readings.{Stated}
 use Rattle.sentences.specs.Models.{left, vars_of, tabs_of, drawn_so}
 use Rattle.sentences.proofs.statements.+read_block_read_choice_read_else_read_repetition_read_statement_read_statements.Given as goal
 
-abbrev pub decreases-read-block : goal.decreases-read-block
-decreases-read-block l = 5 * l.levels
+abbrev pub decreases-read_block : goal.decreases-read_block
+decreases-read_block l = 5 * l.levels
 
-abbrev pub decreases-read-choice : goal.decreases-read-choice
-decreases-read-choice l = 5 * l.levels + 2
+abbrev pub decreases-read_choice : goal.decreases-read_choice
+decreases-read_choice l = 5 * l.levels + 2
 
-abbrev pub decreases-read-else : goal.decreases-read-else
-decreases-read-else l = 5 * l.levels + 1
+abbrev pub decreases-read_else : goal.decreases-read_else
+decreases-read_else l = 5 * l.levels + 1
 
-abbrev pub decreases-read-repetition : goal.decreases-read-repetition
-decreases-read-repetition l = 5 * l.levels + 2
+abbrev pub decreases-read_repetition : goal.decreases-read_repetition
+decreases-read_repetition l = 5 * l.levels + 2
 
-abbrev pub decreases-read-statement : goal.decreases-read-statement
-decreases-read-statement l = 5 * l.levels + 3
+abbrev pub decreases-read_statement : goal.decreases-read_statement
+decreases-read_statement l = 5 * l.levels + 3
 
-abbrev pub decreases-read-statements : goal.decreases-read-statements
-decreases-read-statements l = 5 * l.levels + 4
+abbrev pub decreases-read_statements : goal.decreases-read_statements
+decreases-read_statements l = 5 * l.levels + 4
 
 -- the words from the start of the loop on are statements
-abbrev pub invariant-read-statements-loop-s : goal.invariant-read-statements-loop-s
-invariant-read-statements-loop-s l = Stated (vars_of l.names) (tabs_of l.names) l.levels (left l.initial.s) (left l.s) (drawn_so l.initial.d) (drawn_so l.d)
+abbrev pub invariant-read_statements-loop-s : goal.invariant-read_statements-loop-s
+invariant-read_statements-loop-s l = Stated (vars_of l.names) (tabs_of l.names) l.levels (left l.initial.s) (left l.s) (drawn_so l.initial.d) (drawn_so l.d)
 
-abbrev pub decreases-read-statements-loop-s : goal.decreases-read-statements-loop-s
-decreases-read-statements-loop-s l = length (words (left l.s))
+abbrev pub decreases-read_statements-loop-s : goal.decreases-read_statements-loop-s
+decreases-read_statements-loop-s l = length (words (left l.s))

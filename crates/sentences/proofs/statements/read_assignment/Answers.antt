@@ -23,30 +23,30 @@ pub returns-in_err-k : goal.returns-in_err-k
 returns-in_err-k c =
     let n = c.args.names.now in
     let h = c.in_err-k.ensures in
-    handed_on _ _ c.from-residual-in-err-k.result _ c.from-residual-in-err-k.ensures.1
+    handed_on _ _ c.from_residual-in_err-k.result _ c.from_residual-in_err-k.ensures.1
     (λ l. turns_at assigning (Starts (vars_of n) (tabs_of n) l) _ _ Undeclared _ h.1 (target_decides (vars_of n) (tabs_of n) c.in_ok-name.ensures false h.0))
 
 pub returns-in_err-mark : goal.returns-in_err-mark
 returns-in_err-mark c =
     let n = c.args.names.now in
     let h = c.in_ok-k.ensures in
-    handed_on _ _ c.from-residual-in-err-mark.result _ c.from-residual-in-err-mark.ensures.1
-    (λ l. turns (refuses_becomes (vars_of n) (tabs_of n) c.in_ok-name.ensures h.0 _) c.in-err-mark.ensures)
+    handed_on _ _ c.from_residual-in_err-mark.result _ c.from_residual-in_err-mark.ensures.1
+    (λ l. turns (refuses_becomes (vars_of n) (tabs_of n) c.in_ok-name.ensures h.0 _) c.in_err-mark.ensures)
 
 pub returns-in_err-right : goal.returns-in_err-right
 returns-in_err-right c =
     let n = c.args.names.now in
     let h = c.in_ok-k.ensures in
-    handed_on _ _ c.from-residual-in-err-right.result _ c.from-residual-in-err-right.ensures.1
-    (λ l. turns (refuses_side (vars_of n) (tabs_of n) c.in_ok-name.ensures h.0 c.in_ok-mark.ensures _) c.in-err-right.ensures)
+    handed_on _ _ c.from_residual-in_err-right.result _ c.from_residual-in_err-right.ensures.1
+    (λ l. turns (refuses_side (vars_of n) (tabs_of n) c.in_ok-name.ensures h.0 c.in_ok-mark.ensures _) c.in_err-right.ensures)
 
 pub returns-in_err-mark-2 : goal.returns-in_err-mark-2
 returns-in_err-mark-2 c =
     let n = c.args.names.now in
     let h = c.in_ok-k.ensures in
     let a = c.in_ok-right.ensures in
-    handed_on _ _ c.from-residual-in-err-mark-2.result _ c.from-residual-in-err-mark-2.ensures.1
-    (λ l. turns (refuses_semicolon (vars_of n) (tabs_of n) c.in_ok-name.ensures h.0 c.in_ok-mark.ensures a.2 _) c.in-err-mark-2.ensures)
+    handed_on _ _ c.from_residual-in_err-mark-2.result _ c.from_residual-in_err-mark-2.ensures.1
+    (λ l. turns (refuses_semicolon (vars_of n) (tabs_of n) c.in_ok-name.ensures h.0 c.in_ok-mark.ensures a.2 _) c.in_err-mark-2.ensures)
 
 pub returns : goal.returns
 returns c =

@@ -19,7 +19,7 @@ loop-byte-init g c plain = begun _ _ plain
 pub loop-byte-preserved : goal.loop-byte-preserved
 loop-byte-preserved g c plain =
     joined _ _ _ _ _ _ _ (encodes_more _ _ _ c.loop-byte-test.true c.from.ensures) (c.loop-byte.invariant plain)
-    (λ p. c.in-ok-write-char.ensures.writes p refl)
+    (λ p. c.in_ok-write_char.ensures.writes p refl)
 
 pub returns-clause-writes : goal.returns-clause-writes
 returns-clause-writes g c plain _ = has_written_of_eq _ _ _ _ _ (ap encodes (take_all _ _ c.loop-byte-test.false)) (c.loop-byte.invariant plain)

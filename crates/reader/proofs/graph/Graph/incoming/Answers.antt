@@ -27,7 +27,7 @@ part-requires-2 c =
     let h = c.if-point-self.false in
     let a : c.index-from.result.now ≡ length (grouped p es) = c.index-from.ensures ∙ ap (λ (xs : List ℕ). get_or xs p c.index-from.result.now) g.starting ∙ offset_at g.points es p _ (omega arith) in
     let b : c.index-to.result.now ≡ length (grouped (p + 1) es) = c.index-to.ensures ∙ ap (λ (xs : List ℕ). get_or xs (p + 1) c.index-to.result.now) g.starting ∙ offset_at g.points es (p + 1) _ (omega arith) in
-    (part_starts g.points es p _ _ h a b, subst (λ (xs : List Edge). c.index-to.result.now ≤ length xs) (sym (c.as-slice-inward.ensures.value ∙ g.by_target)) (part_ends g.points es p _ _ h a b))
+    (part_starts g.points es p _ _ h a b, subst (λ (xs : List Edge). c.index-to.result.now ≤ length xs) (sym (c.as_slice-inward.ensures.value ∙ g.by_target)) (part_ends g.points es p _ _ h a b))
 
 pub returns : goal.returns
 returns c =
@@ -37,5 +37,5 @@ returns c =
     let h = c.if-point-self.false in
     let a : c.index-from.result.now ≡ length (grouped p es) = c.index-from.ensures ∙ ap (λ (xs : List ℕ). get_or xs p c.index-from.result.now) g.starting ∙ offset_at g.points es p _ (omega arith) in
     let b : c.index-to.result.now ≡ length (grouped (p + 1) es) = c.index-to.ensures ∙ ap (λ (xs : List ℕ). get_or xs (p + 1) c.index-to.result.now) g.starting ∙ offset_at g.points es (p + 1) _ (omega arith) in
-    c.part-2.ensures ∙ ap (λ (xs : List Edge). take (c.index-to.result.now - c.index-from.result.now) (drop c.index-from.result.now xs)) (c.as-slice-inward.ensures.value ∙ g.by_target) ∙
+    c.part-2.ensures ∙ ap (λ (xs : List Edge). take (c.index-to.result.now - c.index-from.result.now) (drop c.index-from.result.now xs)) (c.as_slice-inward.ensures.value ∙ g.by_target) ∙
     part_is g.points es p _ _ h a b ∙ sym (cond-true (ltb p g.points) (incoming p es) [] (lt-ltb p g.points h))

@@ -10,8 +10,8 @@ use Rattle.sentences.proofs.Naming.{length_of}
 use Rattle.reader.proofs.Grouped.{made_ends, edges_fit, lookups_fit}
 use Rattle.reader.proofs.graph.making.finish.Goals as goal
 
-pub invariant-of-result : goal.invariant-of-result
-invariant-of-result c =
+pub invariant_of-result : goal.invariant_of-result
+invariant_of-result c =
     let vars = c.args.names.variables in
     let tabs = c.args.names.tables in
     let es = vec_items c.args.drawing.edges in
@@ -23,8 +23,8 @@ invariant-of-result c =
     let t : length (map table_of (vec_items tabs)) ≡ vec_len tabs = length_of table_of (vec_items tabs) ∙ sym tabs.ok.0 in
     let a = w.2 in
     let b = w.3 in
-    let g = c.in-ok-group.ensures c.new-inward.ensures.items c.new-starts.ensures.items in
-    let s = c.as-slice.ensures.value in (
+    let g = c.in_ok-group.ensures c.new-inward.ensures.items c.new-starts.ensures.items in
+    let s = c.as_slice.ensures.value in (
       w.1,
       (
         subst (λ (m : ℕ). m ≤ 8) v a,

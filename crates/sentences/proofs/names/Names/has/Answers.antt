@@ -17,5 +17,5 @@ returns-else-is_some c =
     let n = c.args.name.now in
     let r = c.is_some-else-is_some.result in
     let v = c.is_some.ensures ∙ is_there n _ _ (names_of_vars _ _ c.as_slice.ensures.value) c.position.result c.position.ensures in
-    let w = c.is_some-else-is_some.ensures ∙ is_there n _ _ (names_of_tables _ _ c.as_slice-else-is_some.ensures.value) c.position-else-is-some.result c.position-else-is-some.ensures in
+    let w = c.is_some-else-is_some.ensures ∙ is_there n _ _ (names_of_tables _ _ c.as_slice-else-is_some.ensures.value) c.position-else-is_some.result c.position-else-is_some.ensures in
     w ∙ ap (λ (x : Bool). x || among n (table_names (tabs_of c.args.self.now))) (sym c.if-is_some.false ∙ v)

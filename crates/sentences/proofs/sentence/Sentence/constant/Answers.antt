@@ -20,9 +20,9 @@ returns-in_err-n c =
 pub returns-in_err-n-2 : goal.returns-in_err-n-2
 returns-in_err-n-2 c =
     record {
-      read = handed_on _ _ c.from-residual-in-err-n-2.result _ c.from-residual-in-err-n-2.ensures.1
-          (turns (refuses_plain (left c.args.self.now) _ (sym c.if-at.ensures)) c.in-err-n-2.ensures);
-      small = IfOk-from_err c.from-residual-in-err-n-2.result _ c.from-residual-in-err-n-2.ensures.0;
+      read = handed_on _ _ c.from_residual-in_err-n-2.result _ c.from_residual-in_err-n-2.ensures.1
+          (turns (refuses_plain (left c.args.self.now) _ (sym c.if-at.ensures)) c.in_err-n-2.ensures);
+      small = IfOk-from_err c.from_residual-in_err-n-2.result _ c.from_residual-in_err-n-2.ensures.0;
     }
 
 pub returns-in_ok-n : goal.returns-in_ok-n
