@@ -1,6 +1,6 @@
 -- what the answers of a book say about its meaning
-use Rattle.std.proofs.Common.{◌≡◌, ℕ, zero, suc, ◌+◌, ◌<◌, Bool, true, false, cond, ltb, List, [], ◌∷◌, ◌++◌, length, get_or, take, Some, None, Ok, Err, Option, Result, sym, refl, ap, ◌∙◌, subst, not-suc-le-zero, add-one, arith, ltb-false, ltb-true}
-use Rattle.std.proofs.lemmas.List.{get_or_past, length-take-le}
+use Rattle.std.proofs.Common.{◌≡◌, ℕ, zero, suc, ◌+◌, ◌<◌, Bool, true, false, cond, ltb, List, [], ◌∷◌, ◌++◌, length, get_or, take, Some, None, Ok, Err, Option, Result, sym, refl, ap, ◌∙◌, not-suc-le-zero, add-one, arith, ltb-false}
+use Rattle.std.proofs.lemmas.List.{get_or_past}
 use Rattle.std.specs.Result.{result_unwrap_or}
 use Rattle.refusal.specs.Reasons.{nowhere}
 use Rattle.refusal.specs.declared.Refusal.{Refusal}

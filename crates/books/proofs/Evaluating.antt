@@ -1,5 +1,5 @@
 -- what the functions of evaluation answer, from what they have been answered
-use Rattle.std.proofs.Common.{◌≡◌, ℕ, ◌<◌, ◌≤◌, Bool, true, false, cond, ltb, List, [], length, get_or, sym, refl, ap, ◌∙◌, subst, arith, ltb-false, ltb-true}
+use Rattle.std.proofs.Common.{◌≡◌, ℕ, Bool, true, false, cond, ltb, List, length, get_or, sym, ap, ◌∙◌, subst, arith, ltb-false, ltb-true}
 use Rattle.std.proofs.lemmas.List.{length-map, get_or-map, get_or_past}
 use Rattle.kinds.specs.Limits.{most_items}
 use Rattle.kinds.specs.Kinds.{Ops, Laws, Sum, Made}
@@ -10,11 +10,11 @@ use Rattle.books.specs.Forms.Among.{only, first, second}
 use Rattle.books.specs.Entries.{values, Short}
 use Rattle.books.specs.declared.Entry.{Entry}
 use Rattle.books.specs.declared.Term.{Term}
-use Rattle.books.specs.declared.Term.TheVariants.{Constant, Shifted}
+use Rattle.books.specs.declared.Term.TheVariants.{Shifted}
 use Rattle.books.specs.declared.Terms.{Terms}
 use Rattle.books.specs.declared.Terms.TheVariants.{One, Two}
 use Rattle.books.specs.declared.Test.{Test}
-use Rattle.books.specs.declared.Test.TheVariants.{Always, Single, Joint}
+use Rattle.books.specs.declared.Test.TheVariants.{Single, Joint}
 use Rattle.books.specs.declared.Alternative.{Alternative}
 use Rattle.books.proofs.Sizes.{made_more, made_term}
 use Rattle.books.proofs.Worth.{sum_light}

@@ -1,9 +1,9 @@
 -- of how many items terms, alternatives and right sides are made
-use Rattle.std.proofs.Common.{◌≡◌, ℕ, zero, suc, ◌≤◌, Bool, true, false, cond, ◌⊎◌, List, [], ◌∷◌, get_or, Some, sym, refl, ap, subst, inl, inr, le_of_suc-le-suc, not-suc-le-zero}
+use Rattle.std.proofs.Common.{◌≡◌, ℕ, zero, suc, ◌≤◌, Bool, true, false, cond, ◌⊎◌, List, [], ◌∷◌, Some, sym, refl, subst, inl, inr, le_of_suc-le-suc, not-suc-le-zero}
 use Rattle.kinds.specs.Kinds.{Ops, Laws, Made}
 use Rattle.kinds.specs.Kinds.Made.{low, high, given, moved}
-use Rattle.books.specs.Books.{at, holds, term, terms, worth, best, right, nth}
-use Rattle.books.specs.Forms.{Among, WellTerm, WellAlternative, Well}
+use Rattle.books.specs.Books.{at, holds, term, terms, worth, best, nth}
+use Rattle.books.specs.Forms.{Among, WellTerm, WellAlternative}
 use Rattle.books.specs.declared.Term.{Term}
 use Rattle.books.specs.declared.Term.TheVariants.{Constant, Shifted}
 use Rattle.books.specs.declared.Terms.{Terms}

@@ -1,4 +1,6 @@
 // Books of equations drawn by chance: a seed and a number of unknowns give a book. Nothing of it is held; what is asked for is drawn then.
+#![tactic(auto)]
+
 mod bounds;
 mod draft;
 mod grades;

@@ -1,11 +1,11 @@
 -- The laws of bounds and of grades.
-use Rattle.std.specs.Prelude.{◌≡◌, ℕ, zero, suc, Bool, true, false, ◌&&◌, ◌⊎◌, ◌↔◌, ℤ, pos, ◌+ℤ◌, ◌≢◌, int_le, refl}
+use Rattle.std.specs.Prelude.{◌≡◌, ℕ, zero, suc, Bool, true, false, ◌⊎◌, ◌↔◌, ℤ, pos, ◌+ℤ◌, ◌≢◌, int_le, refl}
 use Rattle.std.proofs.Common.{ap, sym, ◌∙◌, inl, inr, true≢false, arith}
 use Rattle.std.proofs.lemmas.Bool.{false≢true}
 use Rattle.std.proofs.Math.IntN.{+ℤ_idr, +ℤ_comm, +ℤ_assoc}
 use Rattle.std.proofs.lemmas.Int.{ints}
 use Rattle.std.proofs.lemmas.Bool.Decides.{nat_tests, leb_tells}
-use Rattle.kinds.specs.Kinds.{Ops, Laws, Proper}
+use Rattle.kinds.specs.Kinds.{Laws, Proper}
 use Rattle.kinds.specs.Values.{under, moved, added, reaches, bounds, rank_of, up_to, both_reach, grades}
 use Rattle.kinds.specs.declared.bound.Bound.{Bound}
 use Rattle.kinds.specs.declared.bound.Bound.TheVariants.{Least, Whole, Greatest}

@@ -16,7 +16,7 @@ use Rattle.books.specs.declared.Terms.TheVariants.{One, Two}
 use Rattle.books.specs.declared.Alternative.{Alternative}
 use Rattle.books.proofs.Worth.{no_option}
 use Rattle.books.proofs.Asked.{some_same}
-use Rattle.shapes.specs.Shapes.{ground, over, capped, chain, backward, ring, grid, height, entry_to, row, equations}
+use Rattle.shapes.specs.Shapes.{ground_of, over, capped, chain, backward, ring, grid, height, entry_to, row, equations}
 use Rattle.shapes.specs.declared.forms.Shape.{Shape}
 use Rattle.shapes.specs.declared.forms.Shape.TheVariants.{Chain, Reverse, Ring, Grid}
 use Rattle.shapes.specs.Asking.{row_inside, row_past}
@@ -46,7 +46,7 @@ module _ (n : ℕ) where
   sized : (c : ℕ) → c ≤ most_size → Threshold bounds (Whole (pos c))
   sized c h = (le-leb c most_size h, λ e. let z : ◌≡◌ {A = ℕ} 0 1 = cc in omega arith)
 
-  ground_fits : WellAlternative bounds n ground
+  ground_fits : WellAlternative bounds n ground_of
   ground_fits = record { test = tt; each = λ t i. each_fine t i (sized 0 (omega arith)) }
 
   over_fits : (v : ℕ) → v < n → WellAlternative bounds n (over v)
@@ -73,23 +73,23 @@ module _ (n : ℕ) where
   chain_fits : (u : ℕ) → u < n → RowFits most_alternatives (chain u)
   chain_fits u h = record {
     few = omega arith;
-    fine = (either_fits (u == 0) ground (over (u - 1)) (λ e. ground_fits) (λ e. over_fits (u - 1) (omega arith)), tt);
+    fine = (either_fits (u == 0) ground_of (over (u - 1)) (λ e. ground_fits) (λ e. over_fits (u - 1) (omega arith)), tt);
   }
 
   backward_fits : (u : ℕ) → u < n → RowFits most_alternatives (backward n u)
   backward_fits u h = record {
     few = omega arith;
-    fine = (either_fits (u + 1 == n) ground (over (u + 1)) (λ e. ground_fits) (λ e. let d = eqb-false (u + 1) n e in over_fits (u + 1) (omega arith)), tt);
+    fine = (either_fits (u + 1 == n) ground_of (over (u + 1)) (λ e. ground_fits) (λ e. let d = eqb-false (u + 1) n e in over_fits (u + 1) (omega arith)), tt);
   }
 
   ring_fits : (u : ℕ) → u < n → RowFits most_alternatives (ring n u)
-  ring_fits u h = either_row (u == 0) most_alternatives (ground ∷ capped (n - 1) 1000000 ∷ []) (over (u - 1) ∷ [])
+  ring_fits u h = either_row (u == 0) most_alternatives (ground_of ∷ capped (n - 1) 1000000 ∷ []) (over (u - 1) ∷ [])
       (λ e. record { few = omega arith; fine = (ground_fits, (capped_fits (n - 1) 1000000 (omega arith) (omega arith), tt)) })
       (λ e. record { few = omega arith; fine = (over_fits (u - 1) (omega arith), tt) })
 
   -- of a grid: what comes in, what comes from the left besides, and all
   entry_fits : (u : ℕ) → u < n → WellAlternative bounds n (entry_to u)
-  entry_fits u h = either_fits (u == 0) ground (over (cond (nat_lt u 8) (u - 1) (u - 8))) (λ e. ground_fits) (λ e. over_fits _ (below (nat_lt u 8)))
+  entry_fits u h = either_fits (u == 0) ground_of (over (cond (nat_lt u 8) (u - 1) (u - 8))) (λ e. ground_fits) (λ e. over_fits _ (below (nat_lt u 8)))
     where
       below : (b : Bool) → cond b (u - 1) (u - 8) < n
       below true = omega arith

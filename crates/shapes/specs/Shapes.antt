@@ -11,8 +11,8 @@ use Rattle.shapes.specs.declared.forms.Shape.{Shape}
 use Rattle.shapes.specs.declared.forms.Shape.TheVariants.{Chain, Reverse, Ring, Grid}
 
 -- zero
-abbrev pub ground : Alternative Bound ℤ
-ground = record { test = Always; terms = One (Constant (Whole (pos 0))) }
+abbrev pub ground_of : Alternative Bound ℤ
+ground_of = record { test = Always; terms = One (Constant (Whole (pos 0))) }
 
 -- the unknown v and one more
 abbrev pub over : ℕ → Alternative Bound ℤ
@@ -24,15 +24,15 @@ capped v c = record { test = Always; terms = Two (Shifted v (pos 1)) (Constant (
 
 -- a chain in order: u0 = 0, u(k) = u(k-1) + 1
 abbrev pub chain : ℕ → List (Alternative Bound ℤ)
-chain k = cond (k == 0) ground (over (k - 1)) ∷ []
+chain k = cond (k == 0) ground_of (over (k - 1)) ∷ []
 
 -- a chain of n in reverse order: u(n-1) = 0, u(k) = u(k+1) + 1
 abbrev pub backward : ℕ → ℕ → List (Alternative Bound ℤ)
-backward n k = cond (k + 1 == n) ground (over (k + 1)) ∷ []
+backward n k = cond (k + 1 == n) ground_of (over (k + 1)) ∷ []
 
 -- a ring of n with a cap: u0 = max(0, min(u(n-1) + 1, 1000000)), u(k) = u(k-1) + 1
 abbrev pub ring : ℕ → ℕ → List (Alternative Bound ℤ)
-ring n k = cond (k == 0) (ground ∷ capped (n - 1) 1000000 ∷ []) (over (k - 1) ∷ [])
+ring n k = cond (k == 0) (ground_of ∷ capped (n - 1) 1000000 ∷ []) (over (k - 1) ∷ [])
 
 -- how high the loop of the unknown k of a grid goes: 100 in the corner, and 100 more with each step down or to the right
 abbrev pub height : ℕ → ℕ
@@ -40,7 +40,7 @@ height k = 100 * (k / 8 + k % 8 + 1)
 
 -- what comes into the unknown k of a grid besides from the left: 0 in the corner, in the first row what stands to the left, in the others what stands above
 abbrev pub entry_to : ℕ → Alternative Bound ℤ
-entry_to k = cond (k == 0) ground (over (cond (nat_lt k 8) (k - 1) (k - 8)))
+entry_to k = cond (k == 0) ground_of (over (cond (nat_lt k 8) (k - 1) (k - 8)))
 
 -- a grid of loops with eight columns, row by row: in row r and column c the largest of min(u(r,c) + 1, 100 × (r + c + 1)), of 0 where r = c = 0, of u(r-1,c) + 1 where r > 0, and of u(r,c-1) + 1 where c > 0
 abbrev pub grid : ℕ → List (Alternative Bound ℤ)

@@ -1,4 +1,6 @@
 // Families of books of bounds, of any size within the limits, that hold no list: each answer is computed when asked.
+#![tactic(auto)]
+
 mod forms;
 mod parts;
 mod sizing;

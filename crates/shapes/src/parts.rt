@@ -1,6 +1,6 @@
 // The alternatives that the families are made of. All of them count always.
 ghost use Rattle.std.specs.Prelude.{◌≡◌};
-ghost use Rattle.shapes.specs.Shapes.{ground as ground_of, over as over_of, capped as capped_of};
+ghost use Rattle.shapes.specs.Shapes.{ground_of, over as over_of, capped as capped_of};
 
 use books::{Alternative, Term, Terms, Test};
 use kinds::Bound;

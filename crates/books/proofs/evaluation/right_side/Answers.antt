@@ -1,8 +1,6 @@
-use Rattle.std.proofs.Common.{◌≡◌, ◌<◌, ◌≤◌, [], length, get_or, sym, refl, ◌∙◌, subst, arith}
+use Rattle.std.proofs.Common.{◌≡◌, ◌<◌, ◌≤◌, [], length, get_or, refl, arith}
 use Rattle.std.proofs.lemmas.List.{take_all}
-use Rattle.books.specs.Books.{Largest}
 use Rattle.books.specs.Entries.{values}
-use Rattle.books.specs.declared.evaluation.RightSide.{RightSide}
 use Rattle.books.proofs.Bests.{largest_next}
 use Rattle.books.proofs.Asked.{count_is, must_find}
 use Rattle.books.proofs.evaluation.right_side.Goals as goal

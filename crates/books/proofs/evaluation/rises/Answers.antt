@@ -1,4 +1,4 @@
-use Rattle.std.proofs.Common.{◌≡◌, ◌<◌, ◌≤◌, [], length, get_or, sym, refl, ◌∙◌, subst, arith}
+use Rattle.std.proofs.Common.{◌≡◌, ◌<◌, [], length, get_or, ◌∙◌, arith}
 use Rattle.books.specs.Entries.{values}
 use Rattle.books.proofs.Bests.{right_rises, right_stays, compared, stays_more}
 use Rattle.books.proofs.Asked.{count_is, must_find, found_ok}
