@@ -1,4 +1,6 @@
 // From a script's bytes to its graph.
+#![tactic(auto)]
+
 ghost use Rattle.language.specs.Laws.{GrammarStands, VerdictsStand, GraphsStand};
 ghost use Rattle.reader.specs.Meaning.{ReadsAs};
 

@@ -1,4 +1,6 @@
 // Sentences and names: words in, the names and the drawing of a script out, in one pass.
+#![tactic(auto)]
+
 ghost use Rattle.language.specs.Laws.{GrammarStands, VerdictsStand, GraphsStand};
 ghost use Rattle.language.specs.Examples.{Examples};
 ghost use Rattle.sentences.specs.Outlines.{Outlined};

@@ -2,7 +2,6 @@ use Rattle.std.proofs.Common.{false, ◌∷◌, ◌∙◌}
 use Rattle.std.proofs.lemmas.Result.{MatchResult-weaker}
 use Rattle.refusal.specs.declared.Reason.TheVariants.{Undeclared}
 use Rattle.words.specs.declared.Mark.TheVariants.{Becomes, Semicolon}
-use Rattle.language.specs.Graphs as graphs
 use Rattle.language.specs.Expected.{one}
 use Rattle.language.specs.Expected.Expect.{right}
 use Rattle.language.specs.Readings.{Starts, assigning}

@@ -5,15 +5,15 @@ use Rattle.reader.specs.Grouping.{incoming, grouped}
 use Rattle.reader.proofs.Grouped.{offsets_length, offset_at, part_starts, part_ends, part_is}
 use Rattle.reader.proofs.graph.Graph.incoming.Goals as goal
 
-pub index_from_requires : goal.index_from_requires
-index_from_requires c =
+pub index-from-requires : goal.index-from-requires
+index-from-requires c =
     let g = c.args.self.now in
     let l = ap length g.starting ∙ offsets_length g.points (vec_items g.edges) in
     let k = g.starts.ok.0 in
     omega arith
 
-pub index_to_requires : goal.index_to_requires
-index_to_requires c =
+pub index-to-requires : goal.index-to-requires
+index-to-requires c =
     let g = c.args.self.now in
     let l = ap length g.starting ∙ offsets_length g.points (vec_items g.edges) in
     let k = g.starts.ok.0 in

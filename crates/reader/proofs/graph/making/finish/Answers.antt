@@ -1,5 +1,4 @@
 use Rattle.std.proofs.Common.{◌≡◌, ℕ, ◌<◌, ◌≤◌, map, length, vec_items, vec_len, sym, ap, ◌∙◌, subst}
-use Rattle.language.specs.Graphs as graphs
 use Rattle.language.specs.Graphs.{Each, Below}
 use Rattle.language.specs.declared.Edge.{Edge}
 use Rattle.language.specs.declared.Lookup.{Lookup}
@@ -24,25 +23,14 @@ invariant_of-result c =
     let a = w.2 in
     let b = w.3 in
     let g = c.in_ok-group.ensures c.new-inward.ensures.items c.new-starts.ensures.items in
-    let s = c.as_slice.ensures.value in (
-      w.1,
-      (
-        subst (λ (m : ℕ). m ≤ 8) v a,
-        (
-          subst (λ (m : ℕ). m ≤ 8) t b,
-          (
-            edges_fit n (vec_len vars) es (made_ends well.made) (subst (λ (m : ℕ). Each (λ (e : Edge). Below m e.action) es) v well.actions),
-            (
-              lookups_fit n (vec_len vars) (vec_len tabs) ls (subst (λ (m : ℕ). Each (λ (l : Lookup). (l.point < n) × (l.index < m) × (l.table < vec_len tabs)) ls) v (subst (λ (m : ℕ). Each (λ (l : Lookup). (l.point < n) × (l.index < length (map variable_of (vec_items vars))) × (l.table < m)) ls) t well.reads)),
-              (
-                g.0 ∙ ap (grouped n) s,
-                (
-                  g.1 ∙ ap (offsets n) s,
-                  (∣ c.requires ∣₁, tt),
-                ),
-              ),
-            ),
-          ),
-        ),
-      ),
-    )
+    let s = c.as_slice.ensures.value in
+    record {
+      few_points = w.1;
+      few_variables = subst (λ (m : ℕ). m ≤ 8) v a;
+      few_tables = subst (λ (m : ℕ). m ≤ 8) t b;
+      edges_fit = edges_fit n (vec_len vars) es (made_ends well.made) (subst (λ (m : ℕ). Each (λ (e : Edge). Below m e.action) es) v well.actions);
+      lookups_fit = lookups_fit n (vec_len vars) (vec_len tabs) ls (subst (λ (m : ℕ). Each (λ (l : Lookup). (l.point < n) × (l.index < m) × (l.table < vec_len tabs)) ls) v (subst (λ (m : ℕ). Each (λ (l : Lookup). (l.point < n) × (l.index < length (map variable_of (vec_items vars))) × (l.table < m)) ls) t well.reads));
+      by_target = g.0 ∙ ap (grouped n) s;
+      starting = g.1 ∙ ap (offsets n) s;
+      drawn = ∣ c.requires ∣₁;
+    }

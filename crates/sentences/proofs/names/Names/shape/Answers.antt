@@ -1,6 +1,5 @@
 use Rattle.std.proofs.Common.{sym, ap}
 use Rattle.language.specs.Graphs as graphs
-use Rattle.sentences.specs.declared.Table.{Table}
 use Rattle.sentences.proofs.Naming.{table_at, table_none}
 use Rattle.sentences.proofs.names.Names.shape.Goals as goal
 
