@@ -1,4 +1,6 @@
 // What became of a script, as text: the points and edges that were read, or the line of a refusal.
+#![tactic(auto)]
+
 ghost use Rattle.std.specs.Prelude.{Some};
 ghost use Rattle.listing.specs.Listings.{summary_text, listing_text};
 ghost use Rattle.listing.specs.Refusals.{refusal_line};

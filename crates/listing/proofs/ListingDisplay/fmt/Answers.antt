@@ -33,10 +33,10 @@ loop-edge-init g c plain = begun _ _ plain
 pub loop-edge-preserved : goal.loop-edge-preserved
 loop-edge-preserved g c plain =
     joined _ _ _ _ _ _ _ (lines_more _ _ _ _ c.loop-edge-test.true) (c.loop-edge.invariant plain)
-    (λ p. c.in_ok-write-2.ensures.shows p refl)
+    (λ p. c.in_ok-write-2.ensures.writes p refl)
 
 pub returns-clause-writes : goal.returns-clause-writes
 returns-clause-writes g c plain _ =
     joined _ _ _ _ _ _ _
     (lines_all (summary_text c.args.self.now.0.now) _ _ _ _ _ c.variables-variables.ensures c.edges-edge-items.ensures (take_all _ _ c.loop-edge-test.false))
-    (c.in_ok-write.ensures.shows plain refl) c.loop-edge.invariant
+    (c.in_ok-write.ensures.writes plain refl) c.loop-edge.invariant
