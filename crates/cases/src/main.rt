@@ -5,6 +5,8 @@
 //   @repeat N TEXT   the line TEXT, N times
 //   @fill N          blanks, until the script has N bytes
 //   @bytes B B ..    the bytes of these numbers
+#![tactic(auto)]
+
 mod details;
 mod script;
 

@@ -1,4 +1,6 @@
 // Reads a script from standard input, and prints what it was read as or why it is refused.
+#![tactic(auto)]
+
 ghost use Rattle.std.specs.Prelude.{◌≤◌, IfOk, vec_len};
 
 use listing::{Listing, RefusalLine};
