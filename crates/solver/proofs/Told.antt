@@ -1,5 +1,5 @@
 -- the answers of calls that may refuse, in the lives of an analysis
-use Rattle.std.proofs.Common.{◌≡◌, ℕ, ◌+◌, ◌<◌, ◌≤◌, min, List, Ok, Err, Option, Result, sym, ap, subst, MatchResult}
+use Rattle.std.proofs.Common.{◌≡◌, ℕ, ◌+◌, ◌<◌, ◌≤◌, min, List, Ok, Err, Option, Result, sym, subst}
 use Rattle.kinds.specs.Limits.{most_rounds}
 use Rattle.kinds.specs.Kinds.{Ops, Laws}
 use Rattle.refusal.specs.Reasons.{number_of, nowhere}

@@ -1,5 +1,4 @@
 -- The state of an analysis.
-use Rattle.std.specs.Prelude.{ℕ}
 use Rattle.strategy.specs.Lives.{State}
 use Rattle.strategy.specs.Calls.{state}
 use Rattle.solver.specs.declared.analysis.Analysis.{Analysis}

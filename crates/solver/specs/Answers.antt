@@ -1,5 +1,5 @@
 -- Calls and answers of an analysis, as lives have them.
-use Rattle.std.specs.Prelude.{ℕ, List, [], ◌∷◌, reverse, Ok, Err, Option, Result}
+use Rattle.std.specs.Prelude.{List, [], ◌∷◌, reverse, Ok, Err, Result}
 use Rattle.refusal.specs.Reasons.{number_of}
 use Rattle.refusal.specs.declared.Refusal.{Refusal}
 use Rattle.strategy.specs.Lives as lives

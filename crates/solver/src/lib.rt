@@ -1,4 +1,6 @@
 // The solver: strategy improvement over any book of equations, for every kind of value.
+#![tactic(auto)]
+
 mod analysis;
 mod calls;
 mod choosing;

@@ -2,7 +2,7 @@
 ghost use Rattle.std.specs.Prelude.{◌≡◌, ◌<◌, true, false, ◌↔◌, length, None, slice_index_or};
 ghost use Rattle.kinds.specs.Limits.{most_items};
 ghost use Rattle.kinds.specs.Kinds.{Made};
-ghost use Rattle.strategy.specs.Strategies.{chosen as ChosenOf};
+ghost use Rattle.strategy.specs.Strategies.{chosen as chosen_of};
 ghost use Rattle.books.specs.Entries.{values, choices, Short};
 ghost use Rattle.strategy.specs.Steps.{Relaxes, SweepsAll, ShortSweep, opened_value, opened_all, Evaluates};
 
@@ -25,7 +25,7 @@ fn chosen<K: Kind, B: Book<K>>(
     list: &[Entry<K>],
     unknown: usize,
 ) -> Option<Alternative<K, K::Weight>>
-    ensures { result ≡ ChosenOf (B.Book.meaning book.now) (choices list.now) unknown }
+    ensures { result ≡ chosen_of (B.Book.meaning book.now) (choices list.now) unknown }
 {
     match choice_at(list, unknown) {
         Some(number) => book.alternative(unknown, number).ok(),

@@ -1,8 +1,8 @@
-use Rattle.std.proofs.Common.{◌≡◌, ℕ, ◌+◌, ◌<◌, ◌≤◌, List, [], ◌∷◌, length, take, drop, set, sym, refl, ap, ◌∙◌, subst, arith}
+use Rattle.std.proofs.Common.{◌≡◌, ℕ, ◌+◌, ◌<◌, List, [], length, take, drop, sym, refl, ap, ◌∙◌, subst, arith}
 use Rattle.std.proofs.lemmas.List.{take_all, drop-set-lt, drop-drop, length-replicate}
 use Rattle.books.specs.declared.Entry.{Entry}
 use Rattle.strategy.specs.Lives.{Event}
-use Rattle.strategy.specs.Calls.{state, fresh, Begins}
+use Rattle.strategy.specs.Calls.{state, Begins}
 use Rattle.strategy.proofs.Making.{begins}
 use Rattle.solver.specs.Answers.{history}
 use Rattle.solver.specs.Whole.{LeadsOn}
@@ -32,9 +32,9 @@ loop-place-preserved g c =
     let gt : i < length bs = omega (arith, c.requires) in (
       λ len.
           let q = c.loop-place.invariant.0 len in
-          let r = c.make-call.ensures (history (take i cs) (take i bs)) q.past q.life in
-          subst (λ (h : List (Event ⊥ _ ⊥)). LeadsOn o m h (state c.make-call.new.list c.make-call.new.rounds)) (sym (history_more cs bs i _ c.make-call.result lt gt)) (record { past = r.0; life = r.1 }),
-      drop-set-lt (i + 1) bs i c.make-call.result (omega arith) ∙ sym (drop-drop 1 i bs) ∙ ap (λ (ds : List _). drop 1 ds) c.loop-place.invariant.1 ∙ drop-drop 1 i c.args.answers.now,
+          let r = c.make_call.ensures (history (take i cs) (take i bs)) q.past q.life in
+          subst (λ (h : List (Event ⊥ _ ⊥)). LeadsOn o m h (state c.make_call.new.list c.make_call.new.rounds)) (sym (history_more cs bs i _ c.make_call.result lt gt)) (record { past = r.0; life = r.1 }),
+      drop-set-lt (i + 1) bs i c.make_call.result (omega arith) ∙ sym (drop-drop 1 i bs) ∙ ap (λ (ds : List _). drop 1 ds) c.loop-place.invariant.1 ∙ drop-drop 1 i c.args.answers.now,
     )
 
 pub returns : goal.returns

@@ -15,8 +15,8 @@ returns-in-Round g c =
     let m = g.B.Book.meaning c.args.book.now in
     let well = g.met.B.Book.well c.args.book.now in
     by_call o l m well c.args.list.now c.args.rounds.now c.args.call Round _ _ _ c.in-Round.is
-    (makes_round o l m well c.args.list.now c.args.rounds.now c.make-rounds-progress.result.rounds c.make-rounds-progress.result.settled c.make-rounds-progress.new.list c.saturating-add.result
-    c.make-rounds-progress.ensures.ran c.make-rounds-progress.ensures.within c.saturating-add.ensures)
+    (makes_round o l m well c.args.list.now c.args.rounds.now c.make_rounds-progress.result.rounds c.make_rounds-progress.result.settled c.make_rounds-progress.new.list c.saturating_add.result
+    c.make_rounds-progress.ensures.ran c.make_rounds-progress.ensures.within c.saturating_add.ensures)
 
 pub returns-in-Ok : goal.returns-in-Ok
 returns-in-Ok g c =
@@ -26,7 +26,7 @@ returns-in-Ok g c =
     let well = g.met.B.Book.well c.args.book.now in
     let said = c.in-Ok.ensures in
     by_call o l m well c.args.list.now c.args.rounds.now c.args.call (Run c.in-Run.budget) _ _ _ c.in-Run.is
-    (told_run o l m well c.args.list.now c.args.rounds.now c.in-Run.budget c.in-Ok.progress c.run-within.new.list c.saturating-add-in-Ok.result said.0 said.1 said.2 c.saturating-add-in-Ok.ensures)
+    (told_run o l m well c.args.list.now c.args.rounds.now c.in-Run.budget c.in-Ok.progress c.run_within.new.list c.saturating_add-in-Ok.result said.0 said.1 said.2 c.saturating_add-in-Ok.ensures)
 
 pub returns-in-Err : goal.returns-in-Err
 returns-in-Err g c =
@@ -36,7 +36,7 @@ returns-in-Err g c =
     let well = g.met.B.Book.well c.args.book.now in
     let said = c.in-Err.ensures in
     by_call o l m well c.args.list.now c.args.rounds.now c.args.call (Run c.in-Run.budget) _ _ _ c.in-Run.is
-    (told_no_run o l m well c.args.list.now c.args.rounds.now c.in-Run.budget c.in-Err.refusal c.run-within.new.list said.0 said.1 said.2)
+    (told_no_run o l m well c.args.list.now c.args.rounds.now c.in-Run.budget c.in-Err.refusal c.run_within.new.list said.0 said.1 said.2)
 
 pub returns-in-Restart : goal.returns-in-Restart
 returns-in-Restart g c =
@@ -54,8 +54,8 @@ returns-in-Value g c =
     let m = g.B.Book.meaning c.args.book.now in
     let well = g.met.B.Book.well c.args.book.now in
     by_call o l m well c.args.list.now c.args.rounds.now c.args.call (Value c.in-Value.unknown) _ _ _ c.in-Value.is
-    (by_answer o l m well c.args.list.now c.args.rounds.now (value_of c.in-Value.unknown) _ _ _ _ c.value-answer.ensures
-    (told_value o l m well c.args.list.now c.args.rounds.now c.in-Value.unknown c.show-value.result c.show-value.ensures))
+    (by_answer o l m well c.args.list.now c.args.rounds.now (value_of c.in-Value.unknown) _ _ _ _ c.value_answer.ensures
+    (told_value o l m well c.args.list.now c.args.rounds.now c.in-Value.unknown c.show_value.result c.show_value.ensures))
 
 pub returns-in-Choice : goal.returns-in-Choice
 returns-in-Choice g c =
@@ -64,8 +64,8 @@ returns-in-Choice g c =
     let m = g.B.Book.meaning c.args.book.now in
     let well = g.met.B.Book.well c.args.book.now in
     by_call o l m well c.args.list.now c.args.rounds.now c.args.call (Choice c.in-Choice.unknown) _ _ _ c.in-Choice.is
-    (by_answer o l m well c.args.list.now c.args.rounds.now (choice_of c.in-Choice.unknown) _ _ _ _ c.choice-answer.ensures
-    (told_choice o l m well c.args.list.now c.args.rounds.now c.in-Choice.unknown c.show-choice.result c.show-choice.ensures))
+    (by_answer o l m well c.args.list.now c.args.rounds.now (choice_of c.in-Choice.unknown) _ _ _ _ c.choice_answer.ensures
+    (told_choice o l m well c.args.list.now c.args.rounds.now c.in-Choice.unknown c.show_choice.result c.show_choice.ensures))
 
 pub returns-in-Rounds : goal.returns-in-Rounds
 returns-in-Rounds g c =

@@ -1,4 +1,4 @@
-use Rattle.std.proofs.Common.{◌≡◌, ℕ, ◌+◌, ◌-◌, ◌<◌, ◌≤◌, List, ◌++◌, length, take, drop, sym, refl, ap, ◌∙◌, subst, inl, inr, arith}
+use Rattle.std.proofs.Common.{◌≡◌, ℕ, ◌-◌, ◌≤◌, List, length, take, drop, sym, refl, ap, ◌∙◌, subst, inl, inr, arith}
 use Rattle.std.proofs.lemmas.List.{take_at, drop_at, length-take-le}
 use Rattle.books.specs.declared.Entry.{Entry}
 use Rattle.strategy.specs.Calls.{state, unasked}
@@ -14,15 +14,15 @@ returns g c =
     let o = g.K.Kind.ops in
     let m = g.B.Book.meaning c.args.book.now in
     let es = c.args.list.now in
-    let es' = c.make-all.new.list in
+    let es' = c.make_all.new.list in
     let n = c.count-count.result in
     let e : n ≡ length m = c.count-count.ensures in
     let le : n - 0 ≤ length es = omega arith in
     let same : n - 0 ≡ length m = omega arith in
     let long : length (take (n - 0) es) ≡ length m = length-take-le (n - 0) es le ∙ same in
-    let q = c.make-all.ensures.life long in
-    let long' : length es' ≡ length m = c.make-all.auto.list ∙ long in
-    let life = subst (λ (ds : List (Entry _)). Life o m unasked (history c.args.calls.now (take (length c.args.calls.now) c.make-all.new.answers)) q.past (state ds c.make-all.result))
+    let q = c.make_all.ensures.life long in
+    let long' : length es' ≡ length m = c.make_all.auto.list ∙ long in
+    let life = subst (λ (ds : List (Entry _)). Life o m unasked (history c.args.calls.now (take (length c.args.calls.now) c.make_all.new.answers)) q.past (state ds c.make_all.result))
     (sym (take_at es' _ (length m) long')) q.life in
     record {
       whole = record {
@@ -32,7 +32,7 @@ returns g c =
         life = life;
         always = always o m unasked g.met.K.Kind.laws (g.met.B.Book.well c.args.book.now) life;
         behind = drop_at es' _ (length m) long' ∙ ap (λ (k : ℕ). drop k es) same;
-        behind_answers = c.make-all.ensures.behind;
+        behind_answers = c.make_all.ensures.behind;
       };
       law = lives o g.met.K.Kind.laws;
     }

@@ -1,4 +1,4 @@
-use Rattle.std.proofs.Common.{◌≡◌, ◌+◌, ◌<◌, Bool, true, List, length, sym, refl, ◌∙◌, subst, true≢false, arith}
+use Rattle.std.proofs.Common.{◌+◌, ◌<◌, Bool, List, length, sym, refl, ◌∙◌, subst, true≢false, arith}
 use Rattle.books.specs.Entries.{values, Short}
 use Rattle.strategy.proofs.Choosing.{Improving, improving_none, improving_stays, improving_moves, improved_all}
 use Rattle.solver.proofs.choosing.improve.Goals as goal

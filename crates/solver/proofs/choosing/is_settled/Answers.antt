@@ -1,8 +1,8 @@
-use Rattle.std.proofs.Common.{◌≡◌, ℕ, ◌<◌, Bool, not, length, sym, ap, ◌∙◌, subst, arith}
+use Rattle.std.proofs.Common.{◌≡◌, ℕ, not, length, sym, ap, ◌∙◌, subst, arith}
 use Rattle.kinds.specs.Limits.{most_items}
 use Rattle.kinds.specs.Kinds.{Made}
-use Rattle.books.specs.Books.{at, right}
-use Rattle.books.specs.Entries.{values, Short}
+use Rattle.books.specs.Books.{right}
+use Rattle.books.specs.Entries.{values}
 use Rattle.books.proofs.Sizes.{made_more}
 use Rattle.strategy.proofs.Choosing.{Resting, resting_more, risen, rested}
 use Rattle.solver.proofs.choosing.is_settled.Goals as goal
@@ -14,8 +14,8 @@ returns-then-rises g c h len =
     let m = g.B.Book.meaning c.args.book.now in
     let x = values c.args.list.now in
     let u = c.loop-unknown.unknown in
-    let said = c.rises.ensures h (subst (λ (y : _). Made o most_items y) (sym c.value-at.ensures) (made_more o l most_items (omega arith) (h u))) in
-    risen o l m x u c.rises.result c.if-rises.true (said ∙ ap (λ (y : _). not (o.at_most (right o m x u) y)) c.value-at.ensures) (omega arith)
+    let said = c.rises.ensures h (subst (λ (y : _). Made o most_items y) (sym c.value_at.ensures) (made_more o l most_items (omega arith) (h u))) in
+    risen o l m x u c.rises.result c.if-rises.true (said ∙ ap (λ (y : _). not (o.at_most (right o m x u) y)) c.value_at.ensures) (omega arith)
 
 pub loop-unknown-preserved : goal.loop-unknown-preserved
 loop-unknown-preserved g c h =
@@ -24,8 +24,8 @@ loop-unknown-preserved g c h =
     let m = g.B.Book.meaning c.args.book.now in
     let x = values c.args.list.now in
     let u = c.loop-unknown.unknown in
-    let said = c.rises.ensures h (subst (λ (y : _). Made o most_items y) (sym c.value-at.ensures) (made_more o l most_items (omega arith) (h u))) in
-    resting_more o l m x u c.rises.result c.if-rises.false (said ∙ ap (λ (y : _). not (o.at_most (right o m x u) y)) c.value-at.ensures) (c.loop-unknown.invariant h)
+    let said = c.rises.ensures h (subst (λ (y : _). Made o most_items y) (sym c.value_at.ensures) (made_more o l most_items (omega arith) (h u))) in
+    resting_more o l m x u c.rises.result c.if-rises.false (said ∙ ap (λ (y : _). not (o.at_most (right o m x u) y)) c.value_at.ensures) (c.loop-unknown.invariant h)
 
 pub returns : goal.returns
 returns g c h len =

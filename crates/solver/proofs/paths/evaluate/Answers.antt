@@ -1,4 +1,4 @@
-use Rattle.std.proofs.Common.{◌≡◌, ◌<◌, List, length, sym, ap, ◌∙◌, subst, arith}
+use Rattle.std.proofs.Common.{◌≡◌, List, length, ap, ◌∙◌, subst, arith}
 use Rattle.books.specs.Entries.{choices}
 use Rattle.books.specs.declared.Entry.{Entry}
 use Rattle.strategy.specs.Steps.{opened_all}
@@ -9,8 +9,8 @@ pub loop-turn-init : goal.loop-turn-init
 loop-turn-init g c = swept_none g.K.Kind.ops g.met.K.Kind.laws (g.B.Book.meaning c.args.book.now) c.open.new.list
 
 pub loop-turn-preserved : goal.loop-turn-preserved
-loop-turn-preserved g c = swept_next g.K.Kind.ops g.met.K.Kind.laws (g.B.Book.meaning c.args.book.now) c.open.new.list c.loop-turn.-turn c.loop-turn.list c.sweep.new.list
-    c.loop-turn.invariant c.loop-turn.auto.list c.sweep.ensures.sweeps c.sweep.ensures.strategy c.loop-turn-test.true
+loop-turn-preserved g c = swept_next g.K.Kind.ops g.met.K.Kind.laws (g.B.Book.meaning c.args.book.now) c.open.new.list c.loop-turn._turn c.loop-turn.list c.sweep.new.list
+    c.loop-turn.invariant c.loop-turn.auto.list c.sweep.ensures.sweeps c.sweep.ensures.strategy (omega arith)
 
 pub returns-then-not-sweep : goal.returns-then-not-sweep
 returns-then-not-sweep g c =
@@ -21,8 +21,8 @@ returns-then-not-sweep g c =
     let e = c.open.ensures in
     let n : length c.open.new.list ≡ length (opened_all o es) = ap length e in
     record {
-      values = swept_still o l m (g.met.B.Book.well c.args.book.now) es c.loop-turn.list c.loop-turn.-turn
-          (subst (λ (ds : List (Entry _)). Swept o l m ds c.loop-turn.-turn c.loop-turn.list) e c.loop-turn.invariant)
+      values = swept_still o l m (g.met.B.Book.well c.args.book.now) es c.loop-turn.list c.loop-turn._turn
+          (subst (λ (ds : List (Entry _)). Swept o l m ds c.loop-turn._turn c.loop-turn.list) e c.loop-turn.invariant)
           c.sweep.new.list (omega arith) (c.loop-turn.auto.list ∙ n) c.sweep.ensures.sweeps (c.sweep.ensures.still c.if-not-sweep.true);
       strategy = c.sweep.ensures.strategy ∙ c.loop-turn.invariant.strategy ∙ ap (λ (ds : List (Entry _)). choices ds) e ∙ opened_choices o l m es;
     }
@@ -36,7 +36,7 @@ returns g c =
     let e = c.open.ensures in
     let n : length c.open.new.list ≡ length (opened_all o es) = ap length e in
     record {
-      values = swept_out o l m (g.met.B.Book.well c.args.book.now) es c.loop-turn.list c.loop-turn.-turn
-          (subst (λ (ds : List (Entry _)). Swept o l m ds c.loop-turn.-turn c.loop-turn.list) e c.loop-turn.invariant) (omega arith);
+      values = swept_out o l m (g.met.B.Book.well c.args.book.now) es c.loop-turn.list c.loop-turn._turn
+          (subst (λ (ds : List (Entry _)). Swept o l m ds c.loop-turn._turn c.loop-turn.list) e c.loop-turn.invariant) (omega arith);
       strategy = c.loop-turn.invariant.strategy ∙ ap (λ (ds : List (Entry _)). choices ds) e ∙ opened_choices o l m es;
     }

@@ -1,4 +1,4 @@
-use Rattle.std.proofs.Common.{◌≡◌, ◌≤◌, List, ◌++◌, length, get_or, take, drop, set, sym, refl, ap, ◌∙◌, subst, arith}
+use Rattle.std.proofs.Common.{◌≤◌, List, ◌++◌, length, get_or, take, set, sym, ap, ◌∙◌, arith}
 use Rattle.std.proofs.lemmas.List.Edits.{map_over_more}
 use Rattle.std.proofs.lemmas.List.{take_all, drop_all, append-nil}
 use Rattle.books.specs.declared.Entry.{Entry}
@@ -10,7 +10,7 @@ loop-entry-preserved g c =
     let es = c.loop-entry.list in
     let i = c.loop-entry.entry-index in
     let e = c.entry-item.is in
-    ap (λ (v : _). set es i (record { value = v; choice = (get_or es i c.entry-item.result).choice })) c.first-value-entry.ensures
+    ap (λ (v : _). set es i (record { value = v; choice = (get_or es i c.entry-item.result).choice })) c.first_value-entry.ensures
     ∙ ap (λ (d : Entry _). set es i (record { value = opened_value g.K.Kind.ops d.choice; choice = d.choice })) (sym e)
     ∙ map_over_more (λ (d : Entry _). record { value = opened_value g.K.Kind.ops d.choice; choice = d.choice }) c.args.list.now es i c.entry-item.result c.loop-entry-test.true c.loop-entry.invariant e
 

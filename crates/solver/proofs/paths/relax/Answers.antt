@@ -1,16 +1,15 @@
-use Rattle.std.proofs.Common.{◌≡◌, ◌<◌, length, get_or, sym, refl, ap, ◌∙◌, subst, true≢false, arith}
+use Rattle.std.proofs.Common.{◌<◌, length, sym, refl, ◌∙◌, subst, true≢false, arith}
 use Rattle.kinds.specs.Limits.{most_items}
 use Rattle.kinds.specs.Kinds.{Made}
-use Rattle.books.specs.Entries.{values}
 use Rattle.books.proofs.Sizes.{made_more}
 use Rattle.strategy.proofs.Choosing.{value_is}
 use Rattle.strategy.proofs.Paths.{relax_none, relax_made, relax_same, relax_past, relax_moves, revalued_choices}
 use Rattle.solver.proofs.paths.relax.Goals as goal
 use Rattle.solver.proofs.paths.relax.Goals.{then-unknown-list-via-then-unknown-list, then-unknown-list-via-else-unknown-list+then-same}
 
-pub returns-in-default : goal.returns-in-default
-returns-in-default g c = record {
-  relaxes = λ h. relax_none g.K.Kind.ops g.met.K.Kind.laws (g.B.Book.meaning c.args.book.now) c.args.list.now c.args.unknown c.in-default.ensures;
+pub returns-in_default : goal.returns-in_default
+returns-in_default g c = record {
+  relaxes = λ h. relax_none g.K.Kind.ops g.met.K.Kind.laws (g.B.Book.meaning c.args.book.now) c.args.list.now c.args.unknown c.in_default.ensures;
   strategy = refl;
   still = λ e. refl;
 }
@@ -24,8 +23,8 @@ returns-then-unknown-list g c = record {
       let well = g.met.B.Book.well c.args.book.now in
       let es = c.args.list.now in
       let u = c.args.unknown in
-      let v = c.smaller-term-value.result in
-      let f = c.smaller-term-value.ensures (length m) h in
+      let v = c.smaller_term-value.result in
+      let f = c.smaller_term-value.ensures (length m) h in
       elim c.then-unknown-list.branch [
         | then-unknown-list-via-then-unknown-list w ↦ relax_past o l m well es h u c.in-Some.choice c.in-Some.ensures v f w.if-unknown-list.true
         | then-unknown-list-via-else-unknown-list+then-same w ↦
@@ -42,7 +41,7 @@ returns-then-unknown-list g c = record {
 pub returns : goal.returns
 returns g c = record {
   relaxes = λ h. relax_moves g.K.Kind.ops g.met.K.Kind.laws (g.B.Book.meaning c.args.book.now) (g.met.B.Book.well c.args.book.now) c.args.list.now h c.args.unknown
-      c.in-Some.choice c.in-Some.ensures c.smaller-term-value.result (c.smaller-term-value.ensures _ h) c.index-list-unknown-2.result;
-  strategy = revalued_choices c.args.list.now c.args.unknown c.index-list-unknown-2.result c.smaller-term-value.result (omega arith);
+      c.in-Some.choice c.in-Some.ensures c.smaller_term-value.result (c.smaller_term-value.ensures _ h) c.index-list-unknown-2.result;
+  strategy = revalued_choices c.args.list.now c.args.unknown c.index-list-unknown-2.result c.smaller_term-value.result (omega arith);
   still = λ e. absurd (true≢false e);
 }

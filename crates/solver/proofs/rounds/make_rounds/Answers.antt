@@ -1,6 +1,4 @@
-use Rattle.std.proofs.Common.{◌≡◌, ℕ, ◌≤◌, Bool, true, length, sym, ap, ◌∙◌, subst, arith}
-use Rattle.books.specs.Entries.{values}
-use Rattle.strategy.specs.Solving.{Settled}
+use Rattle.std.proofs.Common.{◌≡◌, ℕ, Bool, subst, arith}
 use Rattle.strategy.specs.Steps.{ImprovesAll, Ran}
 use Rattle.strategy.proofs.Turns.{ready_long, counts_none, counts_more, ready_more, ran_settled, ran_used}
 use Rattle.solver.proofs.rounds.make_rounds.Goals as goal
@@ -47,7 +45,7 @@ returns g c =
     record {
       ran = λ r.
           let inv = c.loop-rounds.invariant r in
-          subst (λ (k : ℕ). Ran o m c.args.budget c.args.list.now k c.is-settled.result es) e
-          (ran_used o l m well c.args.budget c.args.list.now c.loop-rounds.rounds c.is-settled.result es inv.0 e (c.is-settled.ensures inv.1.short (ready_long o l m well es inv.1)));
+          subst (λ (k : ℕ). Ran o m c.args.budget c.args.list.now k c.is_settled.result es) e
+          (ran_used o l m well c.args.budget c.args.list.now c.loop-rounds.rounds c.is_settled.result es inv.0 e (c.is_settled.ensures inv.1.short (ready_long o l m well es inv.1)));
       within = omega arith;
     }

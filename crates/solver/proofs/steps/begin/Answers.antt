@@ -1,6 +1,5 @@
-use Rattle.std.proofs.Common.{◌≡◌, ◌<◌, [], ◌∷◌, ◌++◌, length, None, sym, refl, ap, ◌∙◌, arith}
+use Rattle.std.proofs.Common.{◌≡◌, ◌<◌, length, None, sym, refl, ◌∙◌, arith}
 use Rattle.std.proofs.lemmas.List.{take_more_set, replicate_more, take_all}
-use Rattle.books.specs.declared.Entry.{Entry}
 use Rattle.solver.proofs.steps.begin.Goals as goal
 
 pub loop-entry-init : goal.loop-entry-init

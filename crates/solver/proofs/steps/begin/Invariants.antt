@@ -1,4 +1,4 @@
-use Rattle.std.proofs.Common.{◌≡◌, take, replicate}
+use Rattle.std.proofs.Common.{◌≡◌, take}
 use Rattle.strategy.specs.Calls.{fresh}
 use Rattle.solver.proofs.steps.begin.Given as goal
 

@@ -1,4 +1,4 @@
-use Rattle.std.proofs.Common.{length, sym, refl, ltb-false, ltb-true}
+use Rattle.std.proofs.Common.{length, sym, ltb-false, ltb-true}
 use Rattle.strategy.proofs.Paths.{choice_inside}
 use Rattle.solver.proofs.steps.show_choice.Goals as goal
 

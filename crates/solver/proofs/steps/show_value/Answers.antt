@@ -1,4 +1,4 @@
-use Rattle.std.proofs.Common.{length, sym, refl, ltb-false, ltb-true}
+use Rattle.std.proofs.Common.{length, sym, ltb-false, ltb-true}
 use Rattle.books.proofs.Evaluating.{at_inside}
 use Rattle.solver.proofs.steps.show_value.Goals as goal
 
