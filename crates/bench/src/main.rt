@@ -1,4 +1,6 @@
 // Solves a book of a family and a size, and prints what that came to: `bench SHAPE UNKNOWNS`. Without arguments it solves a few small ones.
+#![tactic(auto)]
+
 ghost use Rattle.std.specs.Prelude.{◌≡◌, min, vec_len, MatchResult};
 ghost use Rattle.refusal.specs.Reasons.{no_memory};
 ghost use Rattle.kinds.specs.Limits.{most_unknowns};
