@@ -1,4 +1,6 @@
 // Lives of analyses of the worked systems, call by call: each call with what it answered.
+#![tactic(auto)]
+
 ghost use Rattle.std.specs.Prelude.{◌≡◌, IfOk, vec_len};
 
 use books::{Book, Entry};

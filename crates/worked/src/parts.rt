@@ -1,6 +1,6 @@
 // Alternatives that count always and have one term.
 ghost use Rattle.std.specs.Prelude.{◌≡◌};
-ghost use Rattle.worked.specs.Systems.{constant as constant_of, shifted as ShiftedOf};
+ghost use Rattle.worked.specs.Systems.{constant as constant_of, shifted as shifted_of};
 
 use books::{Alternative, Term, Terms, Test};
 
@@ -16,7 +16,7 @@ pub(crate) fn constant<V, W>(value: V) -> Alternative<V, W>
 
 // The alternative that is always this unknown, shifted.
 pub(crate) fn shifted<V, W>(unknown: usize, weight: W) -> Alternative<V, W>
-    ensures { result ≡ ShiftedOf unknown weight }
+    ensures { result ≡ shifted_of unknown weight }
 {
     Alternative {
         test: Test::Always,
