@@ -11,8 +11,8 @@ use refusal::Refusal;
 use solver::Analysis;
 use std::alloc::Global;
 
-// How many books of each kind are drawn, a hundred of each size: of 0 to 12 unknowns.
-const BOOKS: u32 = 1300;
+// How many books of each kind are drawn, thirty or more of each size: of 0 to 12 unknowns.
+const BOOKS: u32 = 400;
 
 const SIZES: u32 = 13;
 

@@ -1,5 +1,7 @@
 // Tries the solver: on drawn books against an independent solver, on systems whose values are known, and at its limits.
 // The counts of levels that it prints are those of the independent solver.
+#![tactic(auto)]
+
 mod ascent;
 mod drawn;
 mod known;
