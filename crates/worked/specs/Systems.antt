@@ -47,20 +47,20 @@ abbrev pub shifted : {V W : Type 0} → ℕ → W → Alternative V W
 shifted u w = alternative Always (One (Shifted u w))
 
 -- a ground of zero
-abbrev pub ground : Alternative Bound ℤ
-ground = constant (Whole (pos 0))
+abbrev pub ground_zero : Alternative Bound ℤ
+ground_zero = constant (Whole (pos 0))
 
 -- u0 = max(0, u1), u1 = u0
 abbrev pub copying : List (List (Alternative Bound ℤ))
-copying = (ground ∷ shifted 1 (pos 0) ∷ []) ∷ (shifted 0 (pos 0) ∷ []) ∷ []
+copying = (ground_zero ∷ shifted 1 (pos 0) ∷ []) ∷ (shifted 0 (pos 0) ∷ []) ∷ []
 
 -- u0 = max(0, min(u0 + 1, 9))
 abbrev pub capped : List (List (Alternative Bound ℤ))
-capped = (ground ∷ alternative Always (Two (Shifted 0 (pos 1)) (Constant (Whole (pos 9)))) ∷ []) ∷ []
+capped = (ground_zero ∷ alternative Always (Two (Shifted 0 (pos 1)) (Constant (Whole (pos 9)))) ∷ []) ∷ []
 
 -- u0 = max(0, u0 + 1)
 abbrev pub growing : List (List (Alternative Bound ℤ))
-growing = (ground ∷ shifted 0 (pos 1) ∷ []) ∷ []
+growing = (ground_zero ∷ shifted 0 (pos 1) ∷ []) ∷ []
 
 -- u0 = u0 + 1
 abbrev pub groundless : List (List (Alternative Bound ℤ))
@@ -68,7 +68,7 @@ groundless = (shifted 0 (pos 1) ∷ []) ∷ []
 
 -- u0 = max(0, u0 - 1)
 abbrev pub falling : List (List (Alternative Bound ℤ))
-falling = (ground ∷ shifted 0 (negsuc 0) ∷ []) ∷ []
+falling = (ground_zero ∷ shifted 0 (negsuc 0) ∷ []) ∷ []
 
 -- the equations of a system
 abbrev pub equations : System → List (List (Alternative Bound ℤ))
