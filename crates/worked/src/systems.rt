@@ -62,7 +62,7 @@ impl Book<Bound> for System {
         }
     }
 
-    // Most unknowns have a ground_zero and a way to rise.
+    // Most unknowns have a ground and a way to rise.
     fn alternatives(&self, unknown: usize) -> Result<usize, Refusal> {
         match (*self, unknown) {
             (System::Copying | System::Capped | System::Growing | System::Falling, 0) => Ok(2),
