@@ -1,20 +1,21 @@
 // Why a call turns back: the reason, which has a number and a layer, and the place in the script, if there is one.
 #![tactic(auto)]
 
-ghost use Rattle.std.specs.Prelude.{◌≡◌};
+ghost use Rattle.std.specs.Prelude.{◌≡◌, Some};
 ghost use Rattle.refusal.specs.Reasons.{number_of, layer_of, text_of, located, nowhere, no_memory};
 
 use std::alloc::{AllocError, AllocFailed};
+use std::fmt;
 
 // A place in a script: its line and its column, both from 1. A column is a byte, and a line ends with LF.
-#[derive(Clone, Copy)]
+#[derive(Clone, Copy, PartialEq, Eq, Debug)]
 pub struct Place {
     pub line: usize,
     pub column: usize,
 }
 
 // The part of the program that turned back.
-#[derive(Clone, Copy)]
+#[derive(Clone, Copy, PartialEq, Eq, Debug)]
 pub enum Layer {
     Words,
     Sentence,
@@ -24,26 +25,26 @@ pub enum Layer {
     Memory,
 }
 
-// The rule that failed. docs/REFUSALS.md tells each with an example.
-#[derive(Clone, Copy)]
+// The rule that failed, with the number that the crew looks up. docs/REFUSALS.md tells each with an example.
+#[derive(Clone, Copy, PartialEq, Eq, Debug)]
 pub enum Reason {
-    ScriptTooLong,
-    NoWord,
-    NumberTooLarge,
-    NameTooLong,
-    Unexpected,
-    TooDeep,
-    DeclaredBefore,
-    Undeclared,
-    RangeFalls,
-    TableSize,
-    SameName,
-    TooManyNames,
-    TooManyPoints,
-    NotThere,
-    BudgetTooLarge,
-    ListTooShort,
-    OutOfMemory,
+    ScriptTooLong = 1,
+    NoWord = 2,
+    NumberTooLarge = 3,
+    NameTooLong = 4,
+    Unexpected = 5,
+    TooDeep = 6,
+    DeclaredBefore = 7,
+    Undeclared = 8,
+    RangeFalls = 9,
+    TableSize = 10,
+    SameName = 11,
+    TooManyNames = 12,
+    TooManyPoints = 13,
+    NotThere = 30,
+    BudgetTooLarge = 32,
+    ListTooShort = 33,
+    OutOfMemory = 90,
 }
 
 impl Reason {
@@ -51,25 +52,7 @@ impl Reason {
     pub fn number(self) -> u8
         ensures { result ≡ number_of self }
     {
-        match self {
-            Reason::ScriptTooLong => 1,
-            Reason::NoWord => 2,
-            Reason::NumberTooLarge => 3,
-            Reason::NameTooLong => 4,
-            Reason::Unexpected => 5,
-            Reason::TooDeep => 6,
-            Reason::DeclaredBefore => 7,
-            Reason::Undeclared => 8,
-            Reason::RangeFalls => 9,
-            Reason::TableSize => 10,
-            Reason::SameName => 11,
-            Reason::TooManyNames => 12,
-            Reason::TooManyPoints => 13,
-            Reason::NotThere => 30,
-            Reason::BudgetTooLarge => 32,
-            Reason::ListTooShort => 33,
-            Reason::OutOfMemory => 90,
-        }
+        self as u8
     }
 
     // The layer that the rule belongs to.
@@ -109,8 +92,16 @@ impl Layer {
     }
 }
 
+impl fmt::Display for Layer {
+    ghost output = { λ l. Some (text_of l) };
+
+    fn fmt<W: fmt::Write>(&self, f: &mut fmt::Formatter<W>) -> fmt::Result {
+        f.write_str(self.text())
+    }
+}
+
 // A refused call: the reason, and the place where the script is at fault, if it is.
-#[derive(Clone, Copy)]
+#[derive(Clone, Copy, PartialEq, Eq, Debug)]
 pub struct Refusal {
     pub reason: Reason,
     pub place: Option<Place>,
