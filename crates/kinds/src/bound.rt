@@ -1,13 +1,15 @@
 // Bounds: whole numbers between a least and a greatest value.
-ghost use Rattle.std.specs.Prelude.{◌≡◌, ℕ, ◌+ℤ◌};
+ghost use Rattle.std.specs.Prelude.{◌≡◌, ℕ, ◌+ℤ◌, Some};
 ghost use Rattle.kinds.specs.Kinds.{Made};
-ghost use Rattle.kinds.specs.Values.{bounds, under, added, small, Within, Near, SizedBy, whole_of};
+ghost use Rattle.kinds.specs.Values.{bounds, added, reaches, small, Within, Near, SizedBy, whole_of};
 ghost use Rattle.kinds.specs.Laws.{bounds_laws};
+ghost use Rattle.kinds.specs.Texts.{bound_text};
 
 use crate::Kind;
+use std::fmt;
 
-// A whole number, or minus infinity, or plus infinity.
-#[derive(Clone, Copy, PartialEq, Eq)]
+// A whole number, or minus infinity, or plus infinity, from the lowest to the highest.
+#[derive(Clone, Copy, PartialEq, Eq, PartialOrd, Ord, Debug)]
 pub enum Bound {
     Least,
     Whole(i64),
@@ -29,28 +31,22 @@ impl Bound {
         }
     }
 
-    // Whether it lies at or below the other.
-    fn lies_under(self, other: Bound) -> bool
-        ensures { result ≡ under self other }
-    {
-        match (self, other) {
-            (Bound::Least, _) => true,
-            (_, Bound::Greatest) => true,
-            (Bound::Whole(a), Bound::Whole(b)) => a <= b,
-            _ => false,
-        }
-    }
-
     // The sum of two bounds: minus infinity absorbs everything, plus infinity all else.
     fn plus(self, other: Bound) -> Bound
         ensures { Near self → Near other → result ≡ added self other }
     {
         match (self, other) {
-            (Bound::Least, _) => Bound::Least,
-            (_, Bound::Least) => Bound::Least,
+            (Bound::Least, _) | (_, Bound::Least) => Bound::Least,
             (Bound::Whole(a), Bound::Whole(b)) => Bound::Whole(sum(a, b)),
             _ => Bound::Greatest,
         }
+    }
+
+    // Whether a sum passes the joint test.
+    fn reaches(self, threshold: Bound) -> bool
+        ensures { result ≡ reaches self threshold }
+    {
+        Bound::Least < self && threshold <= self
     }
 }
 
@@ -100,24 +96,20 @@ impl Kind for Bound {
 
     // The order of numbers, between the infinities.
     fn at_most(self, other: Bound) -> bool {
-        self.lies_under(other)
+        self <= other
     }
 
     // Infinities stay where they are.
     fn shift(self, weight: i64) -> Bound {
         match self {
             Bound::Whole(a) => Bound::Whole(sum(a, weight)),
-            Bound::Least => Bound::Least,
-            Bound::Greatest => Bound::Greatest,
+            Bound::Least | Bound::Greatest => self,
         }
     }
 
     // Whether the sum is at least the threshold, and more than minus infinity.
     fn joint(self, other: Bound, threshold: Bound) -> bool {
-        match self.plus(other) {
-            Bound::Least => false,
-            total => threshold.lies_under(total),
-        }
+        self.plus(other).reaches(threshold)
     }
 
     // Zero.
@@ -133,5 +125,17 @@ impl Kind for Bound {
     // The order of numbers.
     fn is_lighter(weight: i64, other: i64) -> bool {
         weight <= other
+    }
+}
+
+impl fmt::Display for Bound {
+    ghost output = { λ x. Some (bound_text x) };
+
+    fn fmt<W: fmt::Write>(&self, f: &mut fmt::Formatter<W>) -> fmt::Result {
+        match *self {
+            Bound::Least => f.write_str("-inf"),
+            Bound::Whole(a) => write!(f, "{a}"),
+            Bound::Greatest => f.write_str("+inf"),
+        }
     }
 }

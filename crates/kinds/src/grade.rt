@@ -1,12 +1,14 @@
 // Grades: where a value comes from, if anything reaches it.
-ghost use Rattle.std.specs.Prelude.{◌≡◌};
+ghost use Rattle.std.specs.Prelude.{◌≡◌, Some};
 ghost use Rattle.kinds.specs.Values.{grades, rank_of};
 ghost use Rattle.kinds.specs.Laws.{grades_laws};
+ghost use Rattle.kinds.specs.Texts.{grade_text};
 
 use crate::Kind;
+use std::fmt;
 
 // Reached by nothing, or written in a script, sensed by the station, or heard over the air; from the lowest to the highest.
-#[derive(Clone, Copy, PartialEq, Eq)]
+#[derive(Clone, Copy, PartialEq, Eq, PartialOrd, Ord, Debug)]
 pub enum Grade {
     Unreached,
     Written,
@@ -25,12 +27,7 @@ impl Grade {
     pub fn rank(self) -> u8
         ensures { result ≡ rank_of self }
     {
-        match self {
-            Grade::Unreached => 0,
-            Grade::Written => 1,
-            Grade::Sensed => 2,
-            Grade::Heard => 3,
-        }
+        self as u8
     }
 }
 
@@ -63,7 +60,7 @@ impl Kind for Grade {
 
     // The order of ranks.
     fn at_most(self, other: Grade) -> bool {
-        self.rank() <= other.rank()
+        self <= other
     }
 
     // Grades do not shift.
@@ -73,8 +70,8 @@ impl Kind for Grade {
 
     // Whether both are reached and at least the threshold.
     fn joint(self, other: Grade, threshold: Grade) -> bool {
-        let lower = self.rank().min(other.rank());
-        1 <= lower && threshold.rank() <= lower
+        let lower = self.min(other);
+        Grade::Written <= lower && threshold <= lower
     }
 
     // The one weight.
@@ -90,5 +87,13 @@ impl Kind for Grade {
     // The one weight is as light as itself.
     fn is_lighter(_weight: NoWeight, _other: NoWeight) -> bool {
         true
+    }
+}
+
+impl fmt::Display for Grade {
+    ghost output = { λ x. Some (grade_text x) };
+
+    fn fmt<W: fmt::Write>(&self, f: &mut fmt::Formatter<W>) -> fmt::Result {
+        write!(f, "grade {}", self.rank())
     }
 }
