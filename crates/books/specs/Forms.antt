@@ -11,6 +11,14 @@ use Rattle.books.specs.declared.Terms.{Terms}
 use Rattle.books.specs.declared.Terms.TheVariants.{One, Two}
 use Rattle.books.specs.declared.Alternative.{Alternative}
 
+-- the constant c, with no test
+abbrev pub constant : {V W : Type 0} → V → Alternative V W
+constant c = record { test = Always; terms = One (Constant c) }
+
+-- the unknown u shifted by w, with no test
+abbrev pub shifted : {V W : Type 0} → ℕ → W → Alternative V W
+shifted u w = record { test = Always; terms = One (Shifted u w) }
+
 -- t stands among the terms
 pub data Among {V W : Type 0} (t : Term V W) : Terms V W → Type 0 where
   only : Among t (One t)

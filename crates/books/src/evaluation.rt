@@ -11,7 +11,7 @@ use crate::{Alternative, Book, Entry, Term, Terms, Test};
 use kinds::Kind;
 
 // The right side of an unknown: its value, and the first alternative that reaches it, if there is any.
-#[derive(Clone, Copy)]
+#[derive(Clone, Copy, PartialEq, Eq, Debug)]
 pub struct RightSide<V> {
     pub value: V,
     pub first: Option<usize>,
