@@ -6,9 +6,6 @@ use Rattle.books.proofs.Asked.{count_is, must_find}
 use Rattle.books.proofs.evaluation.right_side.Goals as goal
 use Rattle.books.proofs.evaluation.right_side.Goals.{in-Ok, in_default}
 
-pub loop-number-init : goal.loop-number-init
-loop-number-init g c h = record { value = c.least.ensures; first = refl }
-
 pub loop-number-preserved : goal.loop-number-preserved
 loop-number-preserved g c h =
     let m = g.B.Book.meaning c.args.book.now in
@@ -22,10 +19,3 @@ loop-number-preserved g c h =
       | in_default w ↦ let r = must_find m c.args.unknown c.loop-number.number c.alternative.result c.alternative.ensures lt in absurd (w.in_default.not-Ok r.0 r.1)
     ]
 
-pub returns : goal.returns
-returns g c h =
-    let m = g.B.Book.meaning c.args.book.now in
-    let bs = get_or m c.args.unknown [] in
-    let n : c.unwrap_or-count.result ≡ length bs = count_is m c.args.unknown c.unwrap_or-count.result c.alternatives.result c.alternatives.ensures c.unwrap_or-count.ensures in
-    let le : length bs ≤ c.loop-number.number = omega arith in
-    rw (take_all c.loop-number.number bs le) at (c.loop-number.invariant h)

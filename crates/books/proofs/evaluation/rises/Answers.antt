@@ -5,9 +5,6 @@ use Rattle.books.proofs.Asked.{count_is, must_find, found_ok}
 use Rattle.books.proofs.evaluation.rises.Goals as goal
 use Rattle.books.proofs.evaluation.rises.Goals.{in-Ok+else-not-at_most, in_default}
 
-pub loop-number-init : goal.loop-number-init
-loop-number-init g c h m k a lt = absurd (omega arith)
-
 pub loop-number-preserved : goal.loop-number-preserved
 loop-number-preserved g c h v =
     let m = g.B.Book.meaning c.args.book.now in

@@ -4,6 +4,3 @@ use Rattle.kinds.proofs.bound.Bound.whole.Goals as goal
 
 pub returns-in-Whole : goal.returns-in-Whole
 returns-in-Whole c = record { value = search rules; size = λ k. made_sized }
-
-pub returns-in-Least : goal.returns-in-Least
-returns-in-Least c = record { value = search rules; size = λ k. made_sized }
