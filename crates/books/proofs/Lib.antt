@@ -4,3 +4,4 @@ pub mod Sizes
 pub mod Bests
 pub mod Evaluating
 pub mod Asked
+pub mod Rows

@@ -4,6 +4,7 @@ use Rattle.std.proofs.Common.{sym, ap, ◌∙◌, subst, inl, inr, arith, not-su
 use Rattle.std.specs.List.{range_with_len}
 use Rattle.std.proofs.lemmas.Bool.Decides.{nat_tests, leb_tells}
 use Rattle.std.proofs.lemmas.List.FromFn.{length-map-range_with_len, get_or-map-range_with_len}
+use Rattle.std.proofs.lemmas.List.{get_or_past}
 use Rattle.refusal.specs.Reasons.{nowhere}
 use Rattle.refusal.specs.declared.Refusal.{Refusal}
 use Rattle.refusal.specs.declared.Reason.TheVariants.{NotThere}
@@ -42,11 +43,6 @@ nth_past f a zero k h = refl
 nth_past f a (suc n) zero h = absurd (not-suc-le-zero h)
 nth_past f a (suc n) (suc k) h = nth_past f (a + 1) n k (omega arith)
 
-pub get_d_past : {X : Type 0} (f : ℕ → X) (a n k : ℕ) (d : X) → n ≤ k → slice_index_or (map f (range_with_len a n)) k d ≡ d
-get_d_past f a zero k d h = refl
-get_d_past f a (suc n) zero d h = absurd (not-suc-le-zero h)
-get_d_past f a (suc n) (suc k) d h = get_d_past f (a + 1) n k d (omega arith)
-
 -- what holds of both arms holds of either
 cond_both : {A : Type 0} (P : A → Type 0) (b : Bool) (x y : A) → P x → P y → P (cond b x y)
 cond_both P true x y p q = p
@@ -71,15 +67,16 @@ refused u n d r e = go (nat_lt u n) refl e
     go false q e = (grind (arith, nat_tests), cc)
 
 module _ {V W : Type 0} (m : Maker V W) (seed n : ℕ) where
+  -- how many unknowns there are
+  pub drawn_long : length (drawn_book m seed n) ≡ n
+  drawn_long = length-map-range_with_len (λ (v : ℕ). drawn_side m n seed v) 0 n
+
   -- the alternatives of an unknown that is there, and of one that is not
   side_there : (u : ℕ) → u < n → slice_index_or (drawn_book m seed n) u [] ≡ drawn_side m n seed u
   side_there u h = get_or-map-range_with_len (λ (v : ℕ). drawn_side m n seed v) 0 n u u [] h (omega arith)
 
   side_past : (u : ℕ) → n ≤ u → slice_index_or (drawn_book m seed n) u [] ≡ []
-  side_past u h = get_d_past (λ (v : ℕ). drawn_side m n seed v) 0 n u [] h
-
-  pub drawn_long : length (drawn_book m seed n) ≡ n
-  drawn_long = length-map-range_with_len (λ (v : ℕ). drawn_side m n seed v) 0 n
+  side_past u h = get_or_past (drawn_book m seed n) u [] (let e = drawn_long in omega arith)
 
   side_long : (u : ℕ) → length (drawn_side m n seed u) ≡ drawn_count seed u
   side_long u = length-map-range_with_len (λ (k : ℕ). drawn_alternative m n (place_of seed u k)) 0 (drawn_count seed u)

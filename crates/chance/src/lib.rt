@@ -1,12 +1,10 @@
-// Books of equations drawn by chance: a seed and a number of unknowns give a book. Nothing of it is held; what is asked for is drawn then.
+// Books of equations drawn by chance: a seed and a number of unknowns give a book over any kind whose values can be drawn. Nothing of it is held; what is asked for is drawn then.
 #![tactic(auto)]
 
-mod bounds;
-mod draft;
-mod grades;
+mod book;
 mod makers;
-mod parts;
+mod sites;
 mod spots;
 
-pub use bounds::ChanceBounds;
-pub use grades::ChanceGrades;
+pub use book::Chance;
+pub use makers::Drawn;

@@ -1,15 +1,13 @@
 // What a drawn number makes of a kind of value: constants, thresholds and weights.
 ghost use Rattle.std.specs.Prelude.{◌≡◌};
-ghost use Rattle.chance.specs.Makers.{Maker, bound_maker, grade_maker, whole_from, grade_from};
+ghost use Rattle.chance.specs.Makers.{Maker, bound_maker, grade_maker, whole_from};
+ghost use Rattle.chance.specs.Drawing.{Sound, bounds_sound, grades_sound};
 
-use kinds::{Bound, Grade, NoWeight};
+use kinds::{Bound, Grade, Kind, NoWeight};
 
-// Values that can be drawn.
-pub(crate) trait Drawn: Sized {
-    // what a value is shifted by
-    type Shift;
-
-    ghost maker: { Maker Self Self.Shift };
+// A kind whose values can be drawn.
+pub trait Drawn: Kind {
+    ghost maker: { Maker Self Self.Weight };
 
     // The constant of a drawn number.
     fn constant(number: u64) -> Self
@@ -20,8 +18,11 @@ pub(crate) trait Drawn: Sized {
         ensures { result ≡ maker.threshold number };
 
     // The weight of a drawn number.
-    fn weight(number: u64) -> Self::Shift
+    fn weight(number: u64) -> Self::Weight
         ensures { result ≡ maker.weight number };
+
+    // each may stand in a book
+    ghost sound: { Sound Self.Kind.ops maker };
 }
 
 // A whole number from -20 to 20.
@@ -31,32 +32,21 @@ fn whole(number: u64) -> i64
     (number % 41) as i64 - 20
 }
 
-// A grade that is reached.
-fn reached(number: u64) -> Grade
-    ensures { result ≡ grade_from number }
-{
-    match number % 3 {
-        0 => Grade::Written,
-        1 => Grade::Sensed,
-        _ => Grade::Heard,
-    }
-}
-
 impl Drawn for Bound {
-    type Shift = i64;
-
     ghost maker = { bound_maker };
 
-    // One in fifty is plus infinity.
+    ghost sound = { bounds_sound };
+
+    // One in fifty is plus infinity, the others are as thresholds.
     fn constant(number: u64) -> Bound {
         if number % 50 == 0 {
             Bound::Greatest
         } else {
-            Bound::Whole(whole(number))
+            Bound::threshold(number)
         }
     }
 
-    // A whole number.
+    // From -20 to 20.
     fn threshold(number: u64) -> Bound {
         Bound::Whole(whole(number))
     }
@@ -68,18 +58,22 @@ impl Drawn for Bound {
 }
 
 impl Drawn for Grade {
-    type Shift = NoWeight;
-
     ghost maker = { grade_maker };
+
+    ghost sound = { grades_sound };
 
     // Any grade that is reached.
     fn constant(number: u64) -> Grade {
-        reached(number)
+        match number % 3 {
+            0 => Grade::Written,
+            1 => Grade::Sensed,
+            _ => Grade::Heard,
+        }
     }
 
-    // Any grade that is reached.
+    // Any grade that is reached, as for a constant.
     fn threshold(number: u64) -> Grade {
-        reached(number)
+        Grade::constant(number)
     }
 
     // The one weight.

@@ -1,8 +1,8 @@
 // Drawn numbers: each place in a book has one for each purpose.
 ghost use Rattle.std.specs.Prelude.{◌≡◌, ◌<◌};
-ghost use Rattle.chance.specs.Spots.{prime, place_of, at_part, part_number, purpose_number, blended, stirred, drawn};
+ghost use Rattle.chance.specs.Spots.{prime, place_of, at_part, blended, stirred, drawn};
 
-// A part of an alternative.
+// A part of an alternative, by its number from 0.
 #[derive(Clone, Copy)]
 pub(crate) enum Part {
     Whole,
@@ -10,7 +10,7 @@ pub(crate) enum Part {
     Second,
 }
 
-// What a number is drawn for.
+// What a number is drawn for, by its number from 0.
 #[derive(Clone, Copy)]
 pub(crate) enum Purpose {
     Alternatives,
@@ -34,37 +34,8 @@ pub(crate) struct Spot {
 // Drawn numbers lie below this prime.
 const PRIME: u64 = 2147483647;
 
-impl Part {
-    // The number that stands for it.
-    fn code(self) -> u64
-        ensures { result ≡ part_number self }
-    {
-        match self {
-            Part::Whole => 0,
-            Part::First => 1,
-            Part::Second => 2,
-        }
-    }
-}
-
-impl Purpose {
-    // The number that stands for it.
-    fn code(self) -> u64
-        ensures { result ≡ purpose_number self }
-    {
-        match self {
-            Purpose::Alternatives => 0,
-            Purpose::Form => 1,
-            Purpose::Terms => 2,
-            Purpose::Unknown => 3,
-            Purpose::Partner => 4,
-            Purpose::Value => 5,
-            Purpose::Weight => 6,
-        }
-    }
-}
-
 // A number turned into another that looks unlike it.
+#[tactic(auto, unfolding(crate::specs::Spots::stirred))]
 fn stir(number: u64) -> u64
     requires { number < prime }
     ensures value { result ≡ stirred number }
@@ -90,27 +61,24 @@ impl Spot {
     pub(crate) fn at(self, part: Part) -> Spot
         ensures { result ≡ at_part part self }
     {
-        Spot {
-            seed: self.seed,
-            unknown: self.unknown,
-            number: self.number,
-            part,
-        }
+        Spot { part, ..self }
     }
 
     // The number of this place and purpose before it is stirred.
+    #[tactic(auto, unfolding(crate::specs::Spots::blended))]
     fn blend(self, purpose: Purpose) -> u64
         ensures value { result ≡ blended self purpose }
         ensures bound { result < prime }
     {
-        let places = self.seed as u64 * 7919
-            + self.unknown as u64 * 104729
-            + self.number as u64 * 1299709;
-        let codes = self.part.code() * 15485863 + purpose.code() * 32452843;
+        let places = u64::from(self.seed) * 7919
+            + u64::from(self.unknown) * 104729
+            + u64::from(self.number) * 1299709;
+        let codes = self.part as u64 * 15485863 + purpose as u64 * 32452843;
         (places + codes) % PRIME
     }
 
     // The number that is drawn at this place for this purpose.
+    #[tactic(auto, unfolding(crate::specs::Spots::drawn))]
     pub(crate) fn draw(self, purpose: Purpose) -> u64
         ensures { result ≡ drawn self purpose }
     {

@@ -1,25 +1,20 @@
 -- The books of the families are well formed.
 use Rattle.std.specs.Prelude.{◌≡◌, ℕ, zero, suc, ◌+◌, ◌-◌, ◌%◌, ◌<◌, ◌≤◌, Bool, true, false, cond, List, [], ◌∷◌, length, ℤ, pos, Some, ◌==◌, nat_lt, slice_index_or, refl}
 use Rattle.std.proofs.Common.{sym, subst, arith, le-leb, ltb-true, ltb-false}
-use Rattle.std.proofs.lemmas.Bool.{eqb-false}
-use Rattle.std.proofs.lemmas.List.FromFn.{length-map-range_with_len}
+use Rattle.std.proofs.lemmas.Bool.{eqb-false, cond_both}
 use Rattle.kinds.specs.Limits.{most_unknowns, most_alternatives}
 use Rattle.kinds.specs.Values.{bounds, most_size}
 use Rattle.kinds.specs.declared.bound.Bound.{Bound}
 use Rattle.kinds.specs.declared.bound.Bound.TheVariants.{Whole}
 use Rattle.books.specs.Books.{nth}
-use Rattle.books.specs.Forms.{Among, Threshold, WellTerm, WellAlternative, Well}
-use Rattle.books.specs.Forms.Among.{only, first, second}
-use Rattle.books.specs.declared.Term.{Term}
-use Rattle.books.specs.declared.Terms.{Terms}
-use Rattle.books.specs.declared.Terms.TheVariants.{One, Two}
+use Rattle.books.specs.Forms.{Threshold, WellTerm, WellAlternative, Well}
 use Rattle.books.specs.declared.Alternative.{Alternative}
 use Rattle.books.proofs.Worth.{no_option}
 use Rattle.books.proofs.Asked.{some_same}
+use Rattle.books.proofs.Rows.{rows_long, row_inside, row_past, each_term}
 use Rattle.shapes.specs.Shapes.{ground_of, over, capped, chain, backward, ring, grid, height, entry_to, row, equations}
 use Rattle.shapes.specs.declared.forms.Shape.{Shape}
 use Rattle.shapes.specs.declared.forms.Shape.TheVariants.{Chain, Reverse, Ring, Grid}
-use Rattle.shapes.specs.Asking.{row_inside, row_past}
 
 -- P holds of each item
 abbrev Each : {A : Type 0} → (A → Type 0) → List A → Type 0
@@ -32,73 +27,53 @@ each_nth P (b ∷ l) zero a h e = subst (λ (c : _). P c) (some_same e) h.0
 each_nth P (b ∷ l) (suc k) a h e = each_nth P l k a h.1 e
 
 module _ (n : ℕ) where
-  -- the terms are well formed in a book of n unknowns
-  abbrev Fine : Terms Bound ℤ → Type 0
-  Fine (One t) = WellTerm bounds n t
-  Fine (Two t s) = WellTerm bounds n t × WellTerm bounds n s
-
-  each_fine : (t : Term Bound ℤ) {ts : Terms Bound ℤ} → Among t ts → Fine ts → WellTerm bounds n t
-  each_fine t only h = h
-  each_fine t first h = h.0
-  each_fine t second h = h.1
-
   -- a number of allowed size as a constant
   sized : (c : ℕ) → c ≤ most_size → Threshold bounds (Whole (pos c))
   sized c h = (le-leb c most_size h, λ e. let z : ◌≡◌ {A = ℕ} 0 1 = cc in omega arith)
 
   ground_fits : WellAlternative bounds n ground_of
-  ground_fits = record { test = tt; each = λ t i. each_fine t i (sized 0 (omega arith)) }
+  ground_fits = record { test = tt; each = λ t i. each_term (WellTerm bounds n) i (sized 0 (omega arith)) }
 
   over_fits : (v : ℕ) → v < n → WellAlternative bounds n (over v)
-  over_fits v h = record { test = tt; each = λ t i. each_fine t i (h, refl) }
+  over_fits v h = record { test = tt; each = λ t i. each_term (WellTerm bounds n) i (h, refl) }
 
   capped_fits : (v c : ℕ) → v < n → c ≤ most_size → WellAlternative bounds n (capped v c)
-  capped_fits v c h s = record { test = tt; each = λ t i. each_fine t i ((h, refl), sized c s) }
-
-  -- a choice of two alternatives, by a test
-  either_fits : (b : Bool) (x y : Alternative Bound ℤ) → (b ≡ true → WellAlternative bounds n x) → (b ≡ false → WellAlternative bounds n y) →
-      WellAlternative bounds n (cond b x y)
-  either_fits true x y p q = p refl
-  either_fits false x y p q = q refl
+  capped_fits v c h s = record { test = tt; each = λ t i. each_term (WellTerm bounds n) i ((h, refl), sized c s) }
 
   -- the alternatives of an unknown: k at most, and well formed
   record RowFits (k : ℕ) (l : List (Alternative Bound ℤ)) : Type 0 where
     few : length l ≤ k
     fine : Each (WellAlternative bounds n) l
 
-  either_row : (b : Bool) (k : ℕ) (x y : List (Alternative Bound ℤ)) → (b ≡ true → RowFits k x) → (b ≡ false → RowFits k y) → RowFits k (cond b x y)
-  either_row true k x y p q = p refl
-  either_row false k x y p q = q refl
-
   chain_fits : (u : ℕ) → u < n → RowFits most_alternatives (chain u)
   chain_fits u h = record {
     few = omega arith;
-    fine = (either_fits (u == 0) ground_of (over (u - 1)) (λ e. ground_fits) (λ e. over_fits (u - 1) (omega arith)), tt);
+    fine = (cond_both (u == 0) ground_of (over (u - 1)) (WellAlternative bounds n) (λ e. ground_fits) (λ e. over_fits (u - 1) (omega arith)), tt);
   }
 
   backward_fits : (u : ℕ) → u < n → RowFits most_alternatives (backward n u)
   backward_fits u h = record {
     few = omega arith;
-    fine = (either_fits (u + 1 == n) ground_of (over (u + 1)) (λ e. ground_fits) (λ e. let d = eqb-false (u + 1) n e in over_fits (u + 1) (omega arith)), tt);
+    fine = (cond_both (u + 1 == n) ground_of (over (u + 1)) (WellAlternative bounds n) (λ e. ground_fits) (λ e. let d = eqb-false (u + 1) n e in over_fits (u + 1) (omega arith)), tt);
   }
 
   ring_fits : (u : ℕ) → u < n → RowFits most_alternatives (ring n u)
-  ring_fits u h = either_row (u == 0) most_alternatives (ground_of ∷ capped (n - 1) 1000000 ∷ []) (over (u - 1) ∷ [])
+  ring_fits u h = cond_both (u == 0) (ground_of ∷ capped (n - 1) 1000000 ∷ []) (over (u - 1) ∷ []) (RowFits most_alternatives)
       (λ e. record { few = omega arith; fine = (ground_fits, (capped_fits (n - 1) 1000000 (omega arith) (omega arith), tt)) })
       (λ e. record { few = omega arith; fine = (over_fits (u - 1) (omega arith), tt) })
 
   -- of a grid: what comes in, what comes from the left besides, and all
   entry_fits : (u : ℕ) → u < n → WellAlternative bounds n (entry_to u)
-  entry_fits u h = either_fits (u == 0) ground_of (over (cond (nat_lt u 8) (u - 1) (u - 8))) (λ e. ground_fits) (λ e. over_fits _ (below (nat_lt u 8)))
+  entry_fits u h = cond_both (u == 0) ground_of (over (cond (nat_lt u 8) (u - 1) (u - 8))) (WellAlternative bounds n) (λ e. ground_fits) (λ e. over_fits _ (below (nat_lt u 8)))
     where
       below : (b : Bool) → cond b (u - 1) (u - 8) < n
       below true = omega arith
       below false = omega arith
 
   left_fits : (u : ℕ) → u < n → RowFits 1 (cond (nat_lt u 8) [] (cond (u % 8 == 0) [] (over (u - 1) ∷ [])))
-  left_fits u h = either_row (nat_lt u 8) 1 [] (cond (u % 8 == 0) [] (over (u - 1) ∷ []))
+  left_fits u h = cond_both (nat_lt u 8) [] (cond (u % 8 == 0) [] (over (u - 1) ∷ [])) (RowFits 1)
       (λ e. record { few = omega arith; fine = tt })
-      (λ e. either_row (u % 8 == 0) 1 [] (over (u - 1) ∷ [])
+      (λ e. cond_both (u % 8 == 0) [] (over (u - 1) ∷ []) (RowFits 1)
       (λ d. record { few = omega arith; fine = tt })
       (λ d. record { few = omega arith; fine = (over_fits (u - 1) (omega arith), tt) }))
 
@@ -126,7 +101,7 @@ module _ (n : ℕ) where
 
 pub fits : (t : Shape) (n : ℕ) → n ≤ most_unknowns → Well bounds (equations t n)
 fits t n s =
-    let e = length-map-range_with_len (row t n) 0 n in
+    let e = rows_long (row t n) n in
     record {
       small = omega arith;
       few = λ u. (all_fits n t u s).few;

@@ -1,22 +1,28 @@
 -- Families of books of bounds: the alternatives of each unknown, by its number.
-use Rattle.std.specs.Prelude.{ℕ, ◌+◌, ◌-◌, ◌*◌, ◌/◌, ◌%◌, cond, List, [], ◌∷◌, map, ℤ, pos, ◌==◌, nat_lt}
+use Rattle.std.specs.Prelude.{ℕ, ◌+◌, ◌-◌, ◌*◌, ◌/◌, ◌%◌, cond, List, [], ◌∷◌, map, Some, None, Option, ℤ, pos, ◌==◌, nat_lt}
 use Rattle.std.specs.List.{range_with_len}
 use Rattle.kinds.specs.declared.bound.Bound.{Bound}
 use Rattle.kinds.specs.declared.bound.Bound.TheVariants.{Whole}
+use Rattle.books.specs.Forms.{constant, shifted}
 use Rattle.books.specs.declared.Term.TheVariants.{Constant, Shifted}
 use Rattle.books.specs.declared.Test.TheVariants.{Always}
-use Rattle.books.specs.declared.Terms.TheVariants.{One, Two}
+use Rattle.books.specs.declared.Terms.TheVariants.{Two}
 use Rattle.books.specs.declared.Alternative.{Alternative}
 use Rattle.shapes.specs.declared.forms.Shape.{Shape}
 use Rattle.shapes.specs.declared.forms.Shape.TheVariants.{Chain, Reverse, Ring, Grid}
 
 -- zero
 abbrev pub ground_of : Alternative Bound ℤ
-ground_of = record { test = Always; terms = One (Constant (Whole (pos 0))) }
+ground_of = constant (Whole (pos 0))
 
 -- the unknown v and one more
 abbrev pub over : ℕ → Alternative Bound ℤ
-over v = record { test = Always; terms = One (Shifted v (pos 1)) }
+over v = shifted v (pos 1)
+
+-- what follows another unknown, if it follows any: that unknown and one more, or zero
+abbrev pub link : Option ℕ → Alternative Bound ℤ
+link None = ground_of
+link (Some v) = over v
 
 -- the unknown v and one more, c at most
 abbrev pub capped : ℕ → ℕ → Alternative Bound ℤ

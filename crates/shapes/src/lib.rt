@@ -4,6 +4,7 @@
 mod forms;
 mod parts;
 mod sizing;
+mod unknowns;
 
 pub use forms::Shape;
 pub use sizing::Shaped;

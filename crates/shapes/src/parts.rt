@@ -1,27 +1,17 @@
 // The alternatives that the families are made of. All of them count always.
 ghost use Rattle.std.specs.Prelude.{◌≡◌};
-ghost use Rattle.shapes.specs.Shapes.{ground_of, over as over_of, capped as capped_of};
+ghost use Rattle.shapes.specs.Shapes.{link as link_of, capped as capped_of};
 
 use books::{Alternative, Term, Terms, Test};
 use kinds::Bound;
 
-// Zero.
-pub(crate) fn ground() -> Alternative<Bound, i64>
-    ensures { result ≡ ground_of }
+// One more than the unknown before, or zero where there is none.
+pub(crate) fn link(before: Option<usize>) -> Alternative<Bound, i64>
+    ensures { result ≡ link_of before }
 {
-    Alternative {
-        test: Test::Always,
-        terms: Terms::One(Term::Constant(Bound::Whole(0))),
-    }
-}
-
-// An unknown and one more.
-pub(crate) fn over(unknown: usize) -> Alternative<Bound, i64>
-    ensures { result ≡ over_of unknown }
-{
-    Alternative {
-        test: Test::Always,
-        terms: Terms::One(Term::Shifted(unknown, 1)),
+    match before {
+        Some(unknown) => Alternative::shifted(unknown, 1),
+        None => Alternative::constant(Bound::Whole(0)),
     }
 }
 

@@ -1,10 +1,13 @@
 // Books of a family and a size.
-ghost use Rattle.std.specs.Prelude.{◌≡◌, ◌≤◌, min};
+ghost use Rattle.std.specs.Prelude.{◌≡◌, ◌<◌, ◌≤◌, min, MatchResult};
 ghost use Rattle.kinds.specs.Limits.{most_unknowns};
+ghost use Rattle.refusal.specs.Reasons.{nowhere};
+ghost use Rattle.refusal.specs.declared.Reason.TheVariants.{NotThere};
 ghost use Rattle.shapes.specs.Shapes.{equations};
 ghost use Rattle.shapes.specs.Fitting.{fits};
 
 use crate::forms::Shape;
+use crate::unknowns::Unknown;
 use books::{Alternative, Book};
 use kinds::Bound;
 use refusal::{Reason, Refusal};
@@ -30,6 +33,19 @@ impl Shaped {
             size: size.min(MOST_UNKNOWNS),
         }
     }
+
+    // The unknown at a place, if it is there.
+    fn unknown(self, place: usize) -> Result<Unknown, Refusal>
+        ensures { MatchResult result (λ u. (place < self.size) × (u.place ≡ place) × (u.size ≡ self.size)) (λ e. (self.size ≤ place) × (e ≡ nowhere NotThere)) }
+    {
+        if place >= self.size {
+            return Err(Refusal::unplaced(Reason::NotThere));
+        }
+        Ok(Unknown {
+            place,
+            size: self.size,
+        })
+    }
 }
 
 impl Book<Bound> for Shaped {
@@ -38,30 +54,28 @@ impl Book<Bound> for Shaped {
     ghost well = { λ b. fits b.shape b.size b.within };
 
     // As many as the size says.
+    #[tactic(auto, using(books::proofs::Rows::rows_long))]
     fn count(&self) -> usize {
         self.size
     }
 
     // By the family.
+    #[tactic(auto, using(books::proofs::Rows::counted_inside, books::proofs::Rows::counted_past))]
     fn alternatives(&self, unknown: usize) -> Result<usize, Refusal> {
-        if unknown >= self.size {
-            return Err(Refusal::unplaced(Reason::NotThere));
-        }
-        Ok(self.shape.width(self.size, unknown))
+        let asked = self.unknown(unknown)?;
+        Ok(self.shape.width(asked))
     }
 
     // By the family.
+    #[tactic(auto, using(books::proofs::Rows::asked_inside, books::proofs::Rows::asked_past))]
     fn alternative(
         &self,
         unknown: usize,
         number: usize,
     ) -> Result<Alternative<Bound, i64>, Refusal> {
-        if unknown >= self.size {
-            return Err(Refusal::unplaced(Reason::NotThere));
-        }
-        match self.shape.pick(self.size, unknown, number) {
-            Some(alternative) => Ok(alternative),
-            None => Err(Refusal::unplaced(Reason::NotThere)),
-        }
+        let asked = self.unknown(unknown)?;
+        self.shape
+            .pick(asked, number)
+            .ok_or(Refusal::unplaced(Reason::NotThere))
     }
 }

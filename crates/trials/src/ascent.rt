@@ -15,10 +15,7 @@ pub struct Ascent {
 
 // The level of an unknown, the lowest where there is none.
 fn level_at(levels: &[Level], unknown: usize) -> Level {
-    match levels.get(unknown) {
-        Some(level) => *level,
-        None => Level::Lowest,
-    }
+    levels.get(unknown).copied().unwrap_or(Level::Lowest)
 }
 
 // A level moved by a distance: only numbers move.
@@ -32,9 +29,8 @@ fn moved(level: Level, distance: i64) -> Level {
 // Whether the sum of two levels reaches a threshold: the lowest absorbs everything and reaches nothing.
 fn sum_reaches(level: Level, other: Level, threshold: Level) -> bool {
     match (level, other) {
-        (Level::Lowest, _) => false,
-        (_, Level::Lowest) => false,
-        (Level::Number(number), _) => !moved(other, number).is_below(threshold),
+        (Level::Lowest, _) | (_, Level::Lowest) => false,
+        (Level::Number(number), _) => threshold <= moved(other, number),
         (Level::Highest, _) => true,
     }
 }
@@ -43,7 +39,7 @@ fn sum_reaches(level: Level, other: Level, threshold: Level) -> bool {
 fn holds(condition: Condition, levels: &[Level]) -> bool {
     match condition {
         Condition::Always => true,
-        Condition::Reaches(unknown, threshold) => !level_at(levels, unknown).is_below(threshold),
+        Condition::Reaches(unknown, threshold) => threshold <= level_at(levels, unknown),
         Condition::SumReaches(unknown, other, threshold) => {
             sum_reaches(
                 level_at(levels, unknown),
@@ -52,15 +48,10 @@ fn holds(condition: Condition, levels: &[Level]) -> bool {
             )
         }
         Condition::BothReach(unknown, other, threshold) => {
-            let lower = smaller(level_at(levels, unknown), level_at(levels, other));
-            lower != Level::Lowest && !lower.is_below(threshold)
+            let lower = level_at(levels, unknown).min(level_at(levels, other));
+            lower != Level::Lowest && threshold <= lower
         }
     }
-}
-
-// The smaller of two levels.
-fn smaller(level: Level, other: Level) -> Level {
-    if other.is_below(level) { other } else { level }
 }
 
 // The level of a part.
@@ -76,10 +67,7 @@ fn given(equation: &Equation, levels: &[Level], cap: i64) -> Level {
     if !holds(equation.condition, levels) {
         return Level::Lowest;
     }
-    let level = smaller(
-        part_level(equation.part, levels),
-        part_level(equation.other, levels),
-    );
+    let level = part_level(equation.part, levels).min(part_level(equation.other, levels));
     match level {
         Level::Number(number) if number > cap => Level::Highest,
         _ => level,
@@ -88,11 +76,12 @@ fn given(equation: &Equation, levels: &[Level], cap: i64) -> Level {
 
 // Raises one unknown to a level, unless it is as high already. Says whether it rose.
 fn raise(levels: &mut [Level], unknown: usize, level: Level) -> bool {
-    if unknown < levels.len() && levels[unknown].is_below(level) {
-        levels[unknown] = level;
-        true
-    } else {
-        false
+    match levels.get_mut(unknown) {
+        Some(known) if *known < level => {
+            *known = level;
+            true
+        }
+        _ => false,
     }
 }
 
@@ -101,9 +90,7 @@ fn turn(equations: &[Equation], levels: &mut [Level], cap: i64) -> bool {
     let mut rose = false;
     for equation in equations {
         let level = given(equation, levels, cap);
-        if raise(levels, equation.unknown, level) {
-            rose = true;
-        }
+        rose |= raise(levels, equation.unknown, level);
     }
     rose
 }
@@ -116,16 +103,6 @@ pub fn ascend(
     cap: i64,
 ) -> Result<Ascent, Refusal> {
     let mut levels = vec![in heap; Level::Lowest; count]?;
-    for _ in 0..MOST_TURNS {
-        if !turn(equations, levels.as_mut_slice(), cap) {
-            return Ok(Ascent {
-                levels,
-                rests: true,
-            });
-        }
-    }
-    Ok(Ascent {
-        levels,
-        rests: false,
-    })
+    let rests = (0..MOST_TURNS).any(|_| !turn(equations, levels.as_mut_slice(), cap));
+    Ok(Ascent { levels, rests })
 }

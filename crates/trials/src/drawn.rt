@@ -2,14 +2,13 @@
 ghost use Rattle.std.specs.Prelude.{◌≡◌, true};
 
 use crate::ascent::{Ascent, ascend};
-use crate::levels::{Level, Plain, read_equations};
-use crate::lives::{Life, by_rounds, in_pieces, whole};
+use crate::levels::{Level, Names, Plain, read_equations};
+use crate::lives::{Life, Living, blank};
 use books::{Book, Entry};
-use chance::{ChanceBounds, ChanceGrades};
-use kinds::{Bound, Grade};
+use chance::{Chance, Drawn};
 use refusal::Refusal;
-use solver::Analysis;
 use std::alloc::Global;
+use std::fmt;
 
 // How many books of each kind are drawn, thirty or more of each size: of 0 to 12 unknowns.
 const BOOKS: u32 = 400;
@@ -20,7 +19,7 @@ const SIZES: u32 = 13;
 const MOST_CONSTANT: i64 = 20;
 
 // What came of the books of one kind: how many there were, the levels that the independent solver found, and where the analysis differs.
-#[derive(Clone, Copy)]
+#[derive(Clone, Copy, Default)]
 pub struct Tally {
     pub books: u32,
     pub lowest: u32,
@@ -32,21 +31,14 @@ pub struct Tally {
     pub first_wrong: Option<u32>,
 }
 
-impl Tally {
-    // No books yet.
-    fn new() -> Tally {
-        Tally {
-            books: 0,
-            lowest: 0,
-            numbers: 0,
-            highest: 0,
-            restless: 0,
-            other_levels: 0,
-            other_lives: 0,
-            first_wrong: None,
-        }
-    }
+// What came of the books of a kind, by the names of its levels.
+#[derive(Clone, Copy)]
+pub struct Report {
+    pub names: Names,
+    pub tally: Tally,
+}
 
+impl Tally {
     // How many levels were found.
     pub fn levels(&self) -> u32 {
         self.lowest
@@ -95,7 +87,7 @@ impl Tally {
 
     // Counts a life that should be like the first.
     fn add_life(&mut self, first: &Life, other: &Life) {
-        if !first.is_sound() || !first.is_like(other) {
+        if !first.is_sound() || *first != *other {
             self.other_lives = self.other_lives.saturating_add(1);
         }
     }
@@ -112,58 +104,65 @@ fn solve<K: Plain, B: Book<K>>(
     let equations = read_equations(heap, book)?;
     let cap = MOST_CONSTANT.saturating_mul(count as i64);
     let ascent = ascend(heap, equations.as_slice(), count, cap)?;
-    let mut analysis = Analysis::set_up(book, list)?;
-    let first = whole(heap, &mut analysis, book)?;
-    let pieces = in_pieces(heap, &mut analysis, book)?;
-    let rounds = by_rounds(heap, &mut analysis, book)?;
-    analysis.restart();
-    let again = whole(heap, &mut analysis, book)?;
+    let mut analysis = Living::set_up(heap, book, list)?;
+    let first = analysis.whole()?;
+    let pieces = analysis.in_pieces()?;
+    let rounds = analysis.by_rounds()?;
+    let again = analysis.again()?;
     tally.books = tally.books.saturating_add(1);
     tally.add_levels(&ascent, &first);
-    tally.add_life(&first, &pieces);
-    tally.add_life(&first, &rounds);
-    tally.add_life(&first, &again);
+    for life in [&pieces, &rounds, &again] {
+        tally.add_life(&first, life);
+    }
     Ok(())
 }
 
-// Solves the book over bounds of a seed.
-fn try_bound_book(heap: Global, seed: u32, tally: &mut Tally) -> Result<(), Refusal> {
-    let book = ChanceBounds::new(seed, (seed % SIZES) as usize);
-    let mut list = [Entry {
-        value: Bound::Greatest,
-        choice: None,
-    }; 12];
-    solve(heap, &book, &mut list, tally)?;
+// Solves the book of a seed.
+fn try_book<K: Plain + Drawn>(heap: Global, seed: u32, tally: &mut Tally) -> Result<(), Refusal> {
+    let book = Chance::new(seed, (seed % SIZES) as usize);
+    let mut list = blank::<K>(heap, 12)?;
+    solve(heap, &book, list.as_mut_slice(), tally)?;
     tally.note(seed);
     Ok(())
 }
 
-// Solves the drawn books over bounds.
-pub fn try_bounds(heap: Global) -> Result<Tally, Refusal> {
-    let mut tally = Tally::new();
+// Solves the drawn books of a kind.
+pub fn try_books<K: Plain + Drawn>(heap: Global) -> Result<Report, Refusal> {
+    let mut tally = Tally::default();
     for seed in 0..BOOKS {
-        try_bound_book(heap, seed, &mut tally)?;
+        try_book::<K>(heap, seed, &mut tally)?;
     }
-    Ok(tally)
+    Ok(Report {
+        names: K::NAMES,
+        tally,
+    })
 }
 
-// Solves the book over grades of a seed.
-fn try_grade_book(heap: Global, seed: u32, tally: &mut Tally) -> Result<(), Refusal> {
-    let book = ChanceGrades::new(seed, (seed % SIZES) as usize);
-    let mut list = [Entry {
-        value: Grade::Heard,
-        choice: None,
-    }; 12];
-    solve(heap, &book, &mut list, tally)?;
-    tally.note(seed);
-    Ok(())
-}
-
-// Solves the drawn books over grades.
-pub fn try_grades(heap: Global) -> Result<Tally, Refusal> {
-    let mut tally = Tally::new();
-    for seed in 0..BOOKS {
-        try_grade_book(heap, seed, &mut tally)?;
+impl fmt::Display for Report {
+    fn fmt<W: fmt::Write>(&self, f: &mut fmt::Formatter<W>) -> fmt::Result {
+        let Report { names, tally } = *self;
+        let values = tally.levels();
+        write!(
+            f,
+            "{}: {} books, {values} values: ",
+            names.kind, tally.books
+        )?;
+        write!(f, "{} {}, ", tally.lowest, names.lowest)?;
+        write!(f, "{} {}, ", tally.numbers, names.numbers)?;
+        write!(f, "{} {}; ", tally.highest, names.highest)?;
+        if tally.agrees() {
+            return f.write_str("the analyses agree, in one run, in pieces, by rounds and again");
+        }
+        let seed = tally.first_wrong.unwrap_or(0);
+        write!(
+            f,
+            "WRONG, first at seed {seed}: {} books at no rest, ",
+            tally.restless
+        )?;
+        write!(
+            f,
+            "{} other values, {} other lives",
+            tally.other_levels, tally.other_lives
+        )
     }
-    Ok(tally)
 }

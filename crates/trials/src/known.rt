@@ -1,35 +1,23 @@
 // Systems whose rounds and values are known.
 use crate::limits::Checks;
-use crate::lives::MOST_ROUNDS;
-use books::{Book, Entry};
-use kinds::{Bound, Grade, Kind};
+use crate::lives::{MOST_ROUNDS, blank};
+use books::Book;
+use kinds::Kind;
 use refusal::Refusal;
 use solver::Analysis;
+use std::alloc::Global;
 use worked::{CopiedGrade, Depth, SinkingBook, System};
 
-// The rounds of one run from set-up, if it settles.
-fn rounds<K: Kind, B: Book<K>>(book: &B, list: &mut [Entry<K>]) -> Result<Option<u16>, Refusal> {
-    let mut analysis = Analysis::set_up(book, list)?;
+// The rounds of one run from set-up, if it settles, of a book of one or two unknowns or none.
+fn rounds<K: Kind, B: Book<K>>(heap: Global, book: &B) -> Result<Option<u16>, Refusal> {
+    let mut list = blank(heap, 2)?;
+    let mut analysis = Analysis::set_up(book, list.as_mut_slice())?;
     let progress = analysis.run(book, MOST_ROUNDS)?;
-    Ok(if progress.settled {
-        Some(progress.rounds)
-    } else {
-        None
-    })
-}
-
-// A worked system over bounds settles in its rounds.
-fn try_system(system: System, checks: &mut Checks) -> Result<(), Refusal> {
-    let mut list = [Entry {
-        value: Bound::Greatest,
-        choice: None,
-    }; 2];
-    checks.add(rounds(&system, &mut list)? == Some(system.rounds()));
-    Ok(())
+    Ok(progress.settled.then_some(progress.rounds))
 }
 
 // Each worked system over bounds settles in its rounds.
-pub fn try_systems(checks: &mut Checks) -> Result<(), Refusal> {
+pub fn try_systems(heap: Global, checks: &mut Checks) -> Result<(), Refusal> {
     let systems = [
         System::Nothing,
         System::Copying,
@@ -39,32 +27,25 @@ pub fn try_systems(checks: &mut Checks) -> Result<(), Refusal> {
         System::Falling,
     ];
     for system in systems {
-        try_system(system, checks)?;
+        checks.add(rounds(heap, &system)? == Some(system.rounds()));
     }
     Ok(())
 }
 
 // The worked system over grades settles in its rounds.
-pub fn try_grade(checks: &mut Checks) -> Result<(), Refusal> {
-    let mut list = [Entry {
-        value: Grade::Heard,
-        choice: None,
-    }; 2];
-    checks.add(rounds(&CopiedGrade, &mut list)? == Some(CopiedGrade.rounds()));
+pub fn try_grade(heap: Global, checks: &mut Checks) -> Result<(), Refusal> {
+    checks.add(rounds(heap, &CopiedGrade)? == Some(CopiedGrade.rounds()));
     Ok(())
 }
 
 // The system over depths, -3 and -2 after 3 rounds.
-pub fn try_depths(checks: &mut Checks) -> Result<(), Refusal> {
+pub fn try_depths(heap: Global, checks: &mut Checks) -> Result<(), Refusal> {
     let book = SinkingBook;
-    let mut list = [Entry {
-        value: Depth::Greatest,
-        choice: None,
-    }; 2];
-    let mut analysis = Analysis::set_up(&book, &mut list)?;
+    let mut list = blank(heap, 2)?;
+    let mut analysis = Analysis::set_up(&book, list.as_mut_slice())?;
     let progress = analysis.run(&book, MOST_ROUNDS)?;
     checks.add(progress.settled && progress.rounds == 3 && analysis.rounds() == 3);
-    checks.add(matches!(analysis.value(0)?, Depth::Whole(-3)));
-    checks.add(matches!(analysis.value(1)?, Depth::Whole(-2)));
+    checks.add(analysis.value(0)? == Depth::Whole(-3));
+    checks.add(analysis.value(1)? == Depth::Whole(-2));
     Ok(())
 }

@@ -5,7 +5,7 @@ use refusal::Refusal;
 use std::alloc::Global;
 
 // A value of either kind: the lowest, a number between, or the highest; in this order.
-#[derive(Clone, Copy, PartialEq, Eq)]
+#[derive(Clone, Copy, PartialEq, Eq, PartialOrd, Ord)]
 pub enum Level {
     Lowest,
     Number(i64),
@@ -37,8 +37,19 @@ pub struct Equation {
     pub other: Part,
 }
 
+// What a kind and its levels are called.
+#[derive(Clone, Copy)]
+pub struct Names {
+    pub kind: &'static str,
+    pub lowest: &'static str,
+    pub numbers: &'static str,
+    pub highest: &'static str,
+}
+
 // A kind whose values can be read as levels.
 pub trait Plain: Kind {
+    const NAMES: Names;
+
     // The value as a level.
     fn level(self) -> Level;
 
@@ -50,6 +61,13 @@ pub trait Plain: Kind {
 }
 
 impl Plain for Bound {
+    const NAMES: Names = Names {
+        kind: "bounds",
+        lowest: "-inf",
+        numbers: "whole",
+        highest: "+inf",
+    };
+
     fn level(self) -> Level {
         match self {
             Bound::Least => Level::Lowest,
@@ -68,6 +86,13 @@ impl Plain for Bound {
 }
 
 impl Plain for Grade {
+    const NAMES: Names = Names {
+        kind: "grades",
+        lowest: "unreached",
+        numbers: "written or sensed",
+        highest: "heard",
+    };
+
     fn level(self) -> Level {
         match self {
             Grade::Unreached => Level::Lowest,
@@ -83,19 +108,6 @@ impl Plain for Grade {
 
     fn together(unknown: usize, other: usize, threshold: Level) -> Condition {
         Condition::BothReach(unknown, other, threshold)
-    }
-}
-
-impl Level {
-    // Whether it lies below the other.
-    pub fn is_below(self, other: Level) -> bool {
-        match (self, other) {
-            (_, Level::Lowest) => false,
-            (Level::Lowest, _) => true,
-            (Level::Highest, _) => false,
-            (_, Level::Highest) => true,
-            (Level::Number(a), Level::Number(b)) => a < b,
-        }
     }
 }
 

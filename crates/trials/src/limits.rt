@@ -1,29 +1,34 @@
 // What an analysis does at its limits.
-ghost use Rattle.std.specs.Prelude.{◌≡◌, ◌<◌, true, false, MatchResult};
-ghost use Rattle.refusal.specs.Reasons.{number_of};
+ghost use Rattle.std.specs.Prelude.{◌≡◌, ◌<◌, true, false, Some, None, MatchResult};
 
 use crate::lives::{MOST_ROUNDS, look};
 use books::Entry;
-use chance::ChanceBounds;
-use kinds::{Bound, Kind};
-use refusal::Refusal;
+use chance::Chance;
+use kinds::Bound;
+use refusal::{Reason, Refusal};
 use solver::Analysis;
 use std::alloc::Global;
+use std::fmt;
 use worked::System;
 
-// How many checks there were, and how many failed.
+// What was checked, how many checks there were, and how many failed.
 #[derive(Clone, Copy)]
 pub struct Checks {
+    name: &'static str,
     pub made: u32,
     pub failed: u32,
 }
 
 impl Checks {
     // None yet.
-    pub fn new() -> Checks
+    pub fn new(name: &'static str) -> Checks
         ensures { (result.made ≡ 0) × (result.failed ≡ 0) }
     {
-        Checks { made: 0, failed: 0 }
+        Checks {
+            name,
+            made: 0,
+            failed: 0,
+        }
     }
 
     // Counts a check. One that failed is never lost.
@@ -38,65 +43,67 @@ impl Checks {
     }
 }
 
-// The number of a refusal, or 0 where there is none.
-fn refused<T: Drop>(answer: Result<T, Refusal>) -> u8
-    ensures { MatchResult answer (λ _. result ≡ 0) (λ e. result ≡ number_of e.reason) }
-{
-    match answer {
-        Ok(_) => 0,
-        Err(refusal) => refusal.reason.number(),
+impl fmt::Display for Checks {
+    fn fmt<W: fmt::Write>(&self, f: &mut fmt::Formatter<W>) -> fmt::Result {
+        let Checks { name, made, failed } = *self;
+        match failed {
+            0 => write!(f, "{name}: {made} checks hold"),
+            _ => write!(f, "{name}: WRONG: {failed} of {made} checks fail"),
+        }
     }
 }
 
 // An entry that no analysis of bounds writes.
-fn mark() -> Entry<Bound> {
-    Entry {
-        value: Bound::Whole(77),
-        choice: Some(99),
-    }
-}
+const MARK: Entry<Bound> = Entry {
+    value: Bound::Whole(77),
+    choice: Some(99),
+};
 
-// Whether an entry is as it was lent.
-fn is_mark(entry: &Entry<Bound>) -> bool {
-    matches!(entry.value, Bound::Whole(77)) && entry.choice == Some(99)
+// Why a call turned back, if it did.
+fn refused<T: Drop>(answer: Result<T, Refusal>) -> Option<Reason>
+    ensures { MatchResult answer (λ _. result ≡ None) (λ e. result ≡ Some e.reason) }
+{
+    answer.err().map(|refusal| refusal.reason)
 }
 
 // Lists of as many entries as there are unknowns, and of one less.
 pub fn try_lists(checks: &mut Checks) {
-    let book = ChanceBounds::new(5, 12);
-    let mut short = [mark(); 11];
-    checks.add(refused(Analysis::set_up(&book, &mut short)) == 33);
-    checks.add(is_mark(&short[0]) && is_mark(&short[10]));
-    let mut just = [mark(); 12];
-    checks.add(refused(Analysis::set_up(&book, &mut just)) == 0);
-    checks.add(!is_mark(&just[0]) && !is_mark(&just[11]));
-    let mut none = [mark(); 0];
-    checks.add(refused(Analysis::set_up(&System::Nothing, &mut none)) == 0);
-    checks.add(refused(Analysis::set_up(&System::Falling, &mut none)) == 33);
+    let book = Chance::new(5, 12);
+    let mut short = [MARK; 11];
+    checks.add(refused(Analysis::set_up(&book, &mut short)) == Some(Reason::ListTooShort));
+    checks.add(short[0] == MARK && short[10] == MARK);
+    let mut just = [MARK; 12];
+    checks.add(refused(Analysis::set_up(&book, &mut just)) == None);
+    checks.add(just[0] != MARK && just[11] != MARK);
+    let mut none = [MARK; 0];
+    checks.add(refused(Analysis::set_up(&System::Nothing, &mut none)) == None);
+    checks.add(
+        refused(Analysis::set_up(&System::Falling, &mut none)) == Some(Reason::ListTooShort),
+    );
 }
 
 // A longer list, whose tail stays as it was lent.
 pub fn try_tail(checks: &mut Checks) -> Result<(), Refusal> {
-    let book = ChanceBounds::new(5, 12);
-    let mut list = [mark(); 14];
+    let book = Chance::new(5, 12);
+    let mut list = [MARK; 14];
     let mut analysis = Analysis::set_up(&book, &mut list)?;
     checks.add(analysis.run(&book, MOST_ROUNDS)?.settled);
-    checks.add(!is_mark(&list[0]) && !is_mark(&list[11]));
-    checks.add(is_mark(&list[12]) && is_mark(&list[13]));
+    checks.add(list[0] != MARK && list[11] != MARK);
+    checks.add(list[12] == MARK && list[13] == MARK);
     Ok(())
 }
 
 // The largest budget, and one more, which changes nothing.
 pub fn try_budgets(heap: Global, checks: &mut Checks) -> Result<(), Refusal> {
-    let book = ChanceBounds::new(12, 12);
-    let mut list = [mark(); 12];
+    let book = Chance::new(12, 12);
+    let mut list = [MARK; 12];
     let mut analysis = Analysis::set_up(&book, &mut list)?;
     checks.add(!analysis.round(&book).settled);
     let before = look(heap, &analysis, 12)?;
     let rounds = analysis.rounds();
-    checks.add(refused(analysis.run(&book, MOST_ROUNDS + 1)) == 32);
+    checks.add(refused(analysis.run(&book, MOST_ROUNDS + 1)) == Some(Reason::BudgetTooLarge));
     checks.add(look(heap, &analysis, 12)? == before && analysis.rounds() == rounds);
-    checks.add(refused(analysis.run(&book, MOST_ROUNDS)) == 0);
+    checks.add(refused(analysis.run(&book, MOST_ROUNDS)) == None);
     checks.add(look(heap, &analysis, 12)? != before && analysis.rounds() > rounds);
     let settled = look(heap, &analysis, 12)?;
     let more = analysis.run(&book, MOST_ROUNDS)?;
@@ -111,12 +118,12 @@ pub fn try_budgets(heap: Global, checks: &mut Checks) -> Result<(), Refusal> {
 
 // The last unknown, and one past it.
 pub fn try_unknowns(checks: &mut Checks) -> Result<(), Refusal> {
-    let book = ChanceBounds::new(12, 12);
-    let mut list = [mark(); 14];
+    let book = Chance::new(12, 12);
+    let mut list = [MARK; 14];
     let analysis = Analysis::set_up(&book, &mut list)?;
-    checks.add(refused(analysis.value(11)) == 0);
-    checks.add(refused(analysis.value(12)) == 30);
-    checks.add(refused(analysis.choice(11)) == 0);
-    checks.add(refused(analysis.choice(12)) == 30);
+    checks.add(refused(analysis.value(11)) == None);
+    checks.add(refused(analysis.value(12)) == Some(Reason::NotThere));
+    checks.add(refused(analysis.choice(11)) == None);
+    checks.add(refused(analysis.choice(12)) == Some(Reason::NotThere));
     Ok(())
 }

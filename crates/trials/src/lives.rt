@@ -1,8 +1,9 @@
 // Lives of an analysis: the same book solved in one run, in pieces and round by round.
 use crate::levels::{Level, Plain};
-use books::Book;
+use books::{Book, Entry};
+use kinds::Kind;
 use refusal::Refusal;
-use solver::Analysis;
+use solver::{Analysis, Progress};
 use std::alloc::Global;
 
 // The largest budget of a run.
@@ -27,11 +28,37 @@ pub struct Course {
 }
 
 // What runs came to, the rounds that the analysis counted, and what it shows then.
-#[derive(Drop)]
+#[derive(PartialEq, Drop)]
 pub struct Life {
     pub course: Course,
     pub counted: u16,
     pub seen: Vec<Seen>,
+}
+
+// An analysis of a book, with the heap that its lives are told in.
+#[derive(Drop)]
+pub struct Living<'a, K, B> {
+    heap: Global,
+    book: &'a B,
+    analysis: Analysis<'a, K>,
+}
+
+impl Course {
+    // No run yet.
+    const NONE: Course = Course {
+        rounds: 0,
+        within: true,
+        settled: false,
+    };
+
+    // With one run more, of this budget.
+    fn and(self, budget: usize, progress: Progress) -> Course {
+        Course {
+            rounds: self.rounds.saturating_add(progress.rounds),
+            within: self.within && usize::from(progress.rounds) <= budget,
+            settled: progress.settled,
+        }
+    }
 }
 
 impl Life {
@@ -39,11 +66,15 @@ impl Life {
     pub fn is_sound(&self) -> bool {
         self.course.settled && self.course.within && self.course.rounds == self.counted
     }
+}
 
-    // Whether the other came to the same.
-    pub fn is_like(&self, other: &Life) -> bool {
-        self.course == other.course && self.counted == other.counted && self.seen == other.seen
-    }
+// A list to lend, of entries that no analysis has written yet.
+pub fn blank<K: Kind>(heap: Global, length: usize) -> Result<Vec<Entry<K>>, Refusal> {
+    let entry = Entry {
+        value: K::greatest(),
+        choice: None,
+    };
+    Ok(vec![in heap; entry; length]?)
 }
 
 // What an analysis shows of each unknown.
@@ -61,80 +92,69 @@ pub fn look<K: Plain>(
     Ok(all)
 }
 
-// The life of an analysis after these runs.
-fn tell_life<K: Plain>(
-    heap: Global,
-    analysis: &Analysis<'_, K>,
-    count: usize,
-    course: Course,
-) -> Result<Life, Refusal> {
-    let seen = look(heap, analysis, count)?;
-    Ok(Life {
-        course,
-        counted: analysis.rounds(),
-        seen,
-    })
-}
-
-// One run with the largest budget.
-pub fn whole<K: Plain, B: Book<K>>(
-    heap: Global,
-    analysis: &mut Analysis<'_, K>,
-    book: &B,
-) -> Result<Life, Refusal> {
-    let progress = analysis.run(book, MOST_ROUNDS)?;
-    let course = Course {
-        rounds: progress.rounds,
-        within: progress.rounds as usize <= MOST_ROUNDS,
-        settled: progress.settled,
-    };
-    tell_life(heap, analysis, book.count(), course)
-}
-
-// From a restart, runs with the budgets 1, 2, 3 and so on, until settled.
-pub fn in_pieces<K: Plain, B: Book<K>>(
-    heap: Global,
-    analysis: &mut Analysis<'_, K>,
-    book: &B,
-) -> Result<Life, Refusal> {
-    analysis.restart();
-    let mut course = Course {
-        rounds: 0,
-        within: true,
-        settled: false,
-    };
-    for budget in 1..MOST_RUNS {
-        let progress = analysis.run(book, budget)?;
-        course.rounds = course.rounds.saturating_add(progress.rounds);
-        course.within = course.within && progress.rounds as usize <= budget;
-        course.settled = progress.settled;
-        if progress.settled {
+// What runs come to, until one is settled. A run is given what came before it, and its number.
+fn runs<F: FnMut(Course, usize) -> Result<Course, Refusal>>(mut run: F) -> Result<Course, Refusal>
+    requires { F.IsAlwaysCallable run }
+{
+    let mut course = Course::NONE;
+    for number in 1..=MOST_RUNS {
+        course = run(course, number)?;
+        if course.settled {
             break;
         }
     }
-    tell_life(heap, analysis, book.count(), course)
+    Ok(course)
 }
 
-// From a restart, one round at a time, until settled.
-pub fn by_rounds<K: Plain, B: Book<K>>(
-    heap: Global,
-    analysis: &mut Analysis<'_, K>,
-    book: &B,
-) -> Result<Life, Refusal> {
-    analysis.restart();
-    let mut course = Course {
-        rounds: 0,
-        within: true,
-        settled: false,
-    };
-    for _ in 0..MOST_RUNS {
-        let progress = analysis.round(book);
-        course.rounds = course.rounds.saturating_add(progress.rounds);
-        course.within = course.within && progress.rounds <= 1;
-        course.settled = progress.settled;
-        if progress.settled {
-            break;
-        }
+impl<'a, K: Plain, B: Book<K>> Living<'a, K, B> {
+    // The analysis of a book in a list.
+    pub fn set_up(
+        heap: Global,
+        book: &'a B,
+        list: &'a mut [Entry<K>],
+    ) -> Result<Living<'a, K, B>, Refusal> {
+        let analysis = Analysis::set_up(book, list)?;
+        Ok(Living {
+            heap,
+            book,
+            analysis,
+        })
     }
-    tell_life(heap, analysis, book.count(), course)
+
+    // Its life after these runs.
+    fn after(&self, course: Course) -> Result<Life, Refusal> {
+        Ok(Life {
+            course,
+            counted: self.analysis.rounds(),
+            seen: look(self.heap, &self.analysis, self.book.count())?,
+        })
+    }
+
+    // One run with the largest budget.
+    pub fn whole(&mut self) -> Result<Life, Refusal> {
+        let progress = self.analysis.run(self.book, MOST_ROUNDS)?;
+        self.after(Course::NONE.and(MOST_ROUNDS, progress))
+    }
+
+    // From a restart, one run with the largest budget.
+    pub fn again(&mut self) -> Result<Life, Refusal> {
+        self.analysis.restart();
+        self.whole()
+    }
+
+    // From a restart, runs with the budgets 1, 2, 3 and so on, until settled.
+    pub fn in_pieces(&mut self) -> Result<Life, Refusal> {
+        self.analysis.restart();
+        let course = runs(|course, number| {
+            Ok(course.and(number, self.analysis.run(self.book, number)?))
+        })?;
+        self.after(course)
+    }
+
+    // From a restart, one round at a time, until settled.
+    pub fn by_rounds(&mut self) -> Result<Life, Refusal> {
+        self.analysis.restart();
+        let course = runs(|course, _| Ok(course.and(1, self.analysis.round(self.book))))?;
+        self.after(course)
+    }
 }

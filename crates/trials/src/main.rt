@@ -9,8 +9,11 @@ mod levels;
 mod limits;
 mod lives;
 
-use drawn::{Tally, try_bounds, try_grades};
+use chance::Drawn;
+use drawn::try_books;
+use kinds::{Bound, Grade};
 use known::{try_depths, try_grade, try_systems};
+use levels::Plain;
 use limits::{Checks, try_budgets, try_lists, try_tail, try_unknowns};
 use refusal::Refusal;
 use std::io;
@@ -34,106 +37,47 @@ impl From<io::Error> for Trouble {
     }
 }
 
-// What the levels of a kind are called.
-#[derive(Clone, Copy)]
-struct Names {
-    kind: &'static str,
-    lowest: &'static str,
-    numbers: &'static str,
-    highest: &'static str,
-}
-
-// Prints what came of the books of a kind.
-fn tell_books(rt: &HostRuntime, names: Names, tally: &Tally) -> io::Result<()> {
-    let Names {
-        kind,
-        lowest,
-        numbers,
-        highest,
-    } = names;
-    let values = tally.levels();
-    print!(rt; "{kind}: {} books, {values} values: ", tally.books)?;
-    print!(rt;
-        "{} {lowest}, {} {numbers}, {} {highest}; ",
-        tally.lowest, tally.numbers, tally.highest
-    )?;
-    if tally.agrees() {
-        return println!(rt; "the analyses agree, in one run, in pieces, by rounds and again");
-    }
-    let seed = tally.first_wrong.unwrap_or(0);
-    print!(rt;
-        "WRONG, first at seed {seed}: {} books at no rest, ",
-        tally.restless
-    )?;
-    println!(rt;
-        "{} other values, {} other lives",
-        tally.other_levels, tally.other_lives
-    )
-}
-
-// Prints what came of some checks.
-fn tell_checks(rt: &HostRuntime, name: &str, checks: Checks) -> io::Result<()> {
-    let made = checks.made;
-    match checks.failed {
-        0 => println!(rt; "{name}: {made} checks hold"),
-        failed => println!(rt; "{name}: WRONG: {failed} of {made} checks fail"),
-    }
-}
-
-// Tries the books over both kinds. Says whether all agree.
-fn try_books(rt: &HostRuntime) -> Result<bool, Trouble> {
-    let bounds = try_bounds(rt.alloc())?;
-    let names = Names {
-        kind: "bounds",
-        lowest: "-inf",
-        numbers: "whole",
-        highest: "+inf",
-    };
-    tell_books(rt, names, &bounds)?;
-    let grades = try_grades(rt.alloc())?;
-    let names = Names {
-        kind: "grades",
-        lowest: "unreached",
-        numbers: "written or sensed",
-        highest: "heard",
-    };
-    tell_books(rt, names, &grades)?;
-    Ok(bounds.agrees() && grades.agrees())
+// Tries the books of a kind. Says whether all agree.
+fn try_kind<K: Plain + Drawn>(rt: &HostRuntime) -> Result<bool, Trouble> {
+    let report = try_books::<K>(rt.alloc())?;
+    println!(rt; "{report}")?;
+    Ok(report.tally.agrees())
 }
 
 // Tries the systems whose rounds are known, and the system over depths. Says whether all checks hold.
 fn try_known(rt: &HostRuntime) -> Result<bool, Trouble> {
-    let mut systems = Checks::new();
-    try_systems(&mut systems)?;
-    try_grade(&mut systems)?;
-    tell_checks(rt, "worked systems", systems)?;
-    let mut depths = Checks::new();
-    try_depths(&mut depths)?;
-    tell_checks(rt, "depths, -3 and -2 after 3 rounds", depths)?;
+    let mut systems = Checks::new("worked systems");
+    try_systems(rt.alloc(), &mut systems)?;
+    try_grade(rt.alloc(), &mut systems)?;
+    println!(rt; "{systems}")?;
+    let mut depths = Checks::new("depths, -3 and -2 after 3 rounds");
+    try_depths(rt.alloc(), &mut depths)?;
+    println!(rt; "{depths}")?;
     Ok(systems.failed == 0 && depths.failed == 0)
 }
 
 // Tries the limits. Says whether all checks hold.
 fn try_limits(rt: &HostRuntime) -> Result<bool, Trouble> {
-    let mut lists = Checks::new();
+    let mut lists = Checks::new("lists");
     try_lists(&mut lists);
     try_tail(&mut lists)?;
-    tell_checks(rt, "lists", lists)?;
-    let mut budgets = Checks::new();
+    println!(rt; "{lists}")?;
+    let mut budgets = Checks::new("budgets");
     try_budgets(rt.alloc(), &mut budgets)?;
-    tell_checks(rt, "budgets", budgets)?;
-    let mut unknowns = Checks::new();
+    println!(rt; "{budgets}")?;
+    let mut unknowns = Checks::new("unknowns");
     try_unknowns(&mut unknowns)?;
-    tell_checks(rt, "unknowns", unknowns)?;
+    println!(rt; "{unknowns}")?;
     Ok(lists.failed == 0 && budgets.failed == 0 && unknowns.failed == 0)
 }
 
 // Tries everything, and prints the result.
 fn run(rt: &HostRuntime) -> Result<(), Trouble> {
-    let books = try_books(rt)?;
+    let bounds = try_kind::<Bound>(rt)?;
+    let grades = try_kind::<Grade>(rt)?;
     let known = try_known(rt)?;
     let limits = try_limits(rt)?;
-    if books && known && limits {
+    if bounds && grades && known && limits {
         println!(rt; "all agree")?;
     } else {
         println!(rt; "WRONG: not all agree")?;

@@ -9,7 +9,8 @@ use Rattle.books.specs.declared.Term.TheVariants.{Constant}
 use Rattle.books.specs.declared.Test.TheVariants.{Single}
 use Rattle.books.specs.declared.Terms.TheVariants.{One}
 use Rattle.books.specs.declared.Alternative.{Alternative}
-use Rattle.worked.specs.Systems.{alternative, constant, shifted}
+use Rattle.books.specs.Forms.{constant, shifted}
+use Rattle.worked.specs.Systems.{alternative}
 use Rattle.worked.specs.declared.sinking.Depth.{Depth}
 use Rattle.worked.specs.declared.sinking.Depth.TheVariants.{Least, Whole, Greatest}
 

@@ -9,12 +9,12 @@ use Rattle.kinds.specs.declared.grade.Grade.TheVariants.{Written}
 use Rattle.kinds.specs.declared.grade.NoWeight.{NoWeight}
 use Rattle.kinds.specs.declared.grade.NoWeight.TheVariants.{Zero}
 use Rattle.books.specs.Books.{at, Solution, HoldsUp}
-use Rattle.books.specs.Forms.{Well}
+use Rattle.books.specs.Forms.{Well, constant, shifted}
 use Rattle.books.specs.declared.Term.TheVariants.{Constant, Shifted}
 use Rattle.books.specs.declared.Test.{Test}
 use Rattle.books.specs.declared.Test.TheVariants.{Always}
 use Rattle.books.specs.declared.Terms.{Terms}
-use Rattle.books.specs.declared.Terms.TheVariants.{One, Two}
+use Rattle.books.specs.declared.Terms.TheVariants.{Two}
 use Rattle.books.specs.declared.Alternative.{Alternative}
 use Rattle.strategy.specs.Solving.{Settled, Rounds}
 use Rattle.strategy.specs.Theory.{none_chosen, all_least, Below}
@@ -37,14 +37,6 @@ pub record ComesTo {V W : Type 0} (o : Ops V W) (m : List (List (Alternative V W
 -- an alternative of these two parts
 abbrev pub alternative : {V W : Type 0} → Test V → Terms V W → Alternative V W
 alternative t ts = record { test = t; terms = ts }
-
--- the constant c, with no test
-abbrev pub constant : {V W : Type 0} → V → Alternative V W
-constant c = alternative Always (One (Constant c))
-
--- the unknown u shifted by w, with no test
-abbrev pub shifted : {V W : Type 0} → ℕ → W → Alternative V W
-shifted u w = alternative Always (One (Shifted u w))
 
 -- a ground of zero
 abbrev pub ground_zero : Alternative Bound ℤ

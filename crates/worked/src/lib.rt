@@ -1,7 +1,6 @@
 // Worked examples: systems of equations whose least solutions are known, and a kind of value that only sinks.
 #![tactic(auto)]
 
-mod parts;
 mod sinking;
 mod systems;
 

@@ -2,16 +2,15 @@
 // They keep the laws of a kind and have little else in common with bounds and grades.
 ghost use Rattle.std.specs.Prelude.{◌≡◌};
 ghost use Rattle.worked.specs.Systems.{ComesTo};
-ghost use Rattle.worked.specs.Sinking.{depths, depth_under, fallen, Deep, Long, sinking_depths, resting_depths};
+ghost use Rattle.worked.specs.Sinking.{depths, fallen, Deep, Long, sinking_depths, resting_depths};
 ghost use Rattle.worked.specs.DepthLaws.{depths_laws, depths_rest};
 
-use crate::parts::{constant, shifted};
 use books::{Alternative, Book, Term, Terms, Test};
 use kinds::Kind;
 use refusal::{Reason, Refusal};
 
-// A whole number, or minus infinity, or plus infinity.
-#[derive(Clone, Copy)]
+// A whole number, or minus infinity, or plus infinity, from the lowest to the highest.
+#[derive(Clone, Copy, PartialEq, Eq, PartialOrd, Ord, Debug)]
 pub enum Depth {
     Least,
     Whole(i64),
@@ -28,26 +27,12 @@ const SINKING_ROUNDS: u16 = 3;
 // The largest size of a constant or a threshold.
 const MOST_DEPTH: u64 = 1000;
 
-impl Depth {
-    // Whether it lies at or below the other.
-    fn lies_under(self, other: Depth) -> bool
-        ensures { result ≡ depth_under self other }
-    {
-        match (self, other) {
-            (Depth::Least, _) => true,
-            (_, Depth::Greatest) => true,
-            (Depth::Whole(a), Depth::Whole(b)) => a <= b,
-            _ => false,
-        }
-    }
-}
-
 // A number sunk by a weight, exact where both are sums of allowed length.
 fn sink(a: i64, weight: u64) -> i64
     ensures { Deep a → Long weight → result ≡ fallen a weight }
 {
     if a < 0 {
-        a.saturating_sub(weight.min(i64::MAX as u64) as i64)
+        a.saturating_sub_unsigned(weight)
     } else {
         a
     }
@@ -85,24 +70,22 @@ impl Kind for Depth {
 
     // The order of numbers, between the infinities.
     fn at_most(self, other: Depth) -> bool {
-        self.lies_under(other)
+        self <= other
     }
 
     // Numbers below zero sink, all else stays where it is.
+    #[tactic(auto, using(crate::proofs::DepthSizes::made_deep, crate::proofs::DepthSizes::sum_long))]
     fn shift(self, weight: u64) -> Depth {
         match self {
             Depth::Whole(a) => Depth::Whole(sink(a, weight)),
-            Depth::Least => Depth::Least,
-            Depth::Greatest => Depth::Greatest,
+            Depth::Least | Depth::Greatest => self,
         }
     }
 
     // Whether both are more than minus infinity, and the greater is at least the threshold.
     fn joint(self, other: Depth, threshold: Depth) -> bool {
-        if self.lies_under(Depth::Least) || other.lies_under(Depth::Least) {
-            return false;
-        }
-        threshold.lies_under(self) || threshold.lies_under(other)
+        let proper = Depth::Least < self && Depth::Least < other;
+        proper && (threshold <= self || threshold <= other)
     }
 
     // Not to sink.
@@ -111,6 +94,7 @@ impl Kind for Depth {
     }
 
     // To sink by both.
+    #[tactic(auto, using(crate::proofs::DepthSizes::sum_long))]
     fn add(weight: u64, other: u64) -> u64 {
         weight.saturating_add(other)
     }
@@ -123,6 +107,7 @@ impl Kind for Depth {
 
 impl SinkingBook {
     // The counted rounds from set-up to rest.
+    #[tactic(auto, using(crate::specs::DepthLaws::depths_rest))]
     pub fn rounds(self) -> u16
         ensures { ComesTo depths sinking_depths result resting_depths }
     {
@@ -155,9 +140,9 @@ impl Book<Depth> for SinkingBook {
         number: usize,
     ) -> Result<Alternative<Depth, u64>, Refusal> {
         match (unknown, number) {
-            (0, 0) => Ok(constant(Depth::Whole(-5))),
-            (0, 1) => Ok(shifted(1, 1)),
-            (1, 0) => Ok(shifted(0, 1)),
+            (0, 0) => Ok(Alternative::constant(Depth::Whole(-5))),
+            (0, 1) => Ok(Alternative::shifted(1, 1)),
+            (1, 0) => Ok(Alternative::shifted(0, 1)),
             (1, 1) => Ok(Alternative {
                 test: Test::Single(0, Depth::Whole(-5)),
                 terms: Terms::One(Term::Constant(Depth::Whole(-2))),

@@ -4,7 +4,6 @@ ghost use Rattle.worked.specs.Systems.{equations, rest_of, copying_grades, resti
 ghost use Rattle.worked.specs.Resting.{rests_after, grades_rest};
 ghost use Rattle.std.specs.Prelude.{refl};
 
-use crate::parts::{constant, shifted};
 use books::{Alternative, Book, Term, Terms, Test};
 use kinds::{Bound, Grade, NoWeight};
 use refusal::{Reason, Refusal};
@@ -35,6 +34,7 @@ const GRADE_ROUNDS: u16 = 2;
 
 impl System {
     // The counted rounds from set-up to rest.
+    #[tactic(auto, using(crate::specs::Resting::rests_after, crate::specs::Resting::systems, crate::specs::Resting::bounded))]
     pub fn rounds(self) -> u16
         ensures rest { ComesTo bounds (equations self) result (rest_of self) }
         ensures collection { SystemsStand }
@@ -80,17 +80,17 @@ impl Book<Bound> for System {
     ) -> Result<Alternative<Bound, i64>, Refusal> {
         match (*self, unknown, number) {
             (System::Copying | System::Capped | System::Growing | System::Falling, 0, 0) => Ok(
-                constant(Bound::Whole(0)),
+                Alternative::constant(Bound::Whole(0)),
             ),
-            (System::Copying, 0, 1) => Ok(shifted(1, 0)),
-            (System::Copying, 1, 0) => Ok(shifted(0, 0)),
+            (System::Copying, 0, 1) => Ok(Alternative::shifted(1, 0)),
+            (System::Copying, 1, 0) => Ok(Alternative::shifted(0, 0)),
             (System::Capped, 0, 1) => Ok(Alternative {
                 test: Test::Always,
                 terms: Terms::Two(Term::Shifted(0, 1), Term::Constant(Bound::Whole(9))),
             }),
-            (System::Growing, 0, 1) => Ok(shifted(0, 1)),
-            (System::Groundless, 0, 0) => Ok(shifted(0, 1)),
-            (System::Falling, 0, 1) => Ok(shifted(0, -1)),
+            (System::Growing, 0, 1) => Ok(Alternative::shifted(0, 1)),
+            (System::Groundless, 0, 0) => Ok(Alternative::shifted(0, 1)),
+            (System::Falling, 0, 1) => Ok(Alternative::shifted(0, -1)),
             _ => Err(Refusal::unplaced(Reason::NotThere)),
         }
     }
@@ -98,6 +98,7 @@ impl Book<Bound> for System {
 
 impl CopiedGrade {
     // The counted rounds from set-up to rest.
+    #[tactic(auto, using(crate::specs::Resting::grades_rest, crate::specs::Resting::systems))]
     pub fn rounds(self) -> u16
         ensures rest { ComesTo grades copying_grades result resting_grades }
         ensures collection { SystemsStand }
@@ -132,9 +133,9 @@ impl Book<Grade> for CopiedGrade {
         number: usize,
     ) -> Result<Alternative<Grade, NoWeight>, Refusal> {
         match (unknown, number) {
-            (0, 0) => Ok(constant(Grade::Written)),
-            (0, 1) => Ok(shifted(1, NoWeight::Zero)),
-            (1, 0) => Ok(shifted(0, NoWeight::Zero)),
+            (0, 0) => Ok(Alternative::constant(Grade::Written)),
+            (0, 1) => Ok(Alternative::shifted(1, NoWeight::Zero)),
+            (1, 0) => Ok(Alternative::shifted(0, NoWeight::Zero)),
             _ => Err(Refusal::unplaced(Reason::NotThere)),
         }
     }

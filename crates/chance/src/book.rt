@@ -1,0 +1,93 @@
+// Drawn books.
+ghost use Rattle.std.specs.Prelude.{◌≡◌, ◌≤◌, min, if◌then◌else◌, Ok, Err, nat_lt};
+ghost use Rattle.refusal.specs.Reasons.{nowhere};
+ghost use Rattle.refusal.specs.declared.Reason.TheVariants.{NotThere};
+ghost use Rattle.books.specs.Questions.{alternative as alternative_of};
+ghost use Rattle.chance.specs.Draws.{drawn_count, drawn_book};
+ghost use Rattle.chance.specs.Drawing.{drawn_well};
+
+use crate::makers::Drawn;
+use crate::sites::Site;
+use crate::spots::{Purpose, Spot};
+use books::{Alternative, Book};
+use refusal::{Reason, Refusal};
+
+// The most unknowns of a drawn book.
+const MOST_UNKNOWNS: usize = 12;
+
+// A drawn book, by its seed and its number of unknowns.
+#[derive(Clone, Copy)]
+pub struct Chance {
+    seed: u32,
+    count: usize,
+    ghost few: { count ≤ 12 },
+}
+
+impl Chance {
+    // The book of a seed, of this many unknowns, and of 12 if it were more.
+    pub fn new(seed: u32, count: usize) -> Chance
+        ensures { (result.seed ≡ seed) × (result.count ≡ min count 12) }
+    {
+        Chance {
+            seed,
+            count: count.min(MOST_UNKNOWNS),
+        }
+    }
+
+    // How many alternatives an unknown has, if it is there.
+    fn width(self, unknown: usize) -> Result<usize, Refusal>
+        ensures { result ≡ (if nat_lt unknown self.count then Ok (drawn_count self.seed unknown) else Err (nowhere NotThere)) }
+    {
+        if unknown >= self.count {
+            return Err(Refusal::unplaced(Reason::NotThere));
+        }
+        let spot = Spot::new(self.seed, unknown as u32, 0);
+        Ok((spot.draw(Purpose::Alternatives) % 5) as usize)
+    }
+
+    // An alternative of an unknown, if both are there.
+    #[tactic(auto, using(crate::specs::Drawing::answered, crate::specs::Drawing::refused, crate::specs::Drawing::asked_over, crate::specs::Drawing::asked_nowhere))]
+    fn pick<K: Drawn>(
+        self,
+        unknown: usize,
+        number: usize,
+    ) -> Result<Alternative<K, K::Weight>, Refusal>
+        ensures { result ≡ alternative_of (drawn_book K.Drawn.maker self.seed self.count) unknown number }
+    {
+        if number >= self.width(unknown)? {
+            return Err(Refusal::unplaced(Reason::NotThere));
+        }
+        let site = Site {
+            spot: Spot::new(self.seed, unknown as u32, number as u32),
+            count: self.count,
+        };
+        Ok(site.alternative())
+    }
+}
+
+impl<K: Drawn> Book<K> for Chance {
+    ghost meaning = { λ b. drawn_book K.Drawn.maker b.seed b.count };
+
+    ghost well = { λ b. drawn_well K.Kind.ops K.Drawn.maker K.Drawn.sound b.seed b.count b.few };
+
+    // As many as were asked for, up to 12.
+    #[tactic(auto, using(crate::specs::Drawing::drawn_long))]
+    fn count(&self) -> usize {
+        self.count
+    }
+
+    // Up to 4.
+    #[tactic(auto, using(crate::specs::Drawing::counted_drawn))]
+    fn alternatives(&self, unknown: usize) -> Result<usize, Refusal> {
+        self.width(unknown)
+    }
+
+    // Its constants, thresholds and weights are those of the kind.
+    fn alternative(
+        &self,
+        unknown: usize,
+        number: usize,
+    ) -> Result<Alternative<K, K::Weight>, Refusal> {
+        self.pick(unknown, number)
+    }
+}
