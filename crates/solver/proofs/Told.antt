@@ -10,13 +10,12 @@ use Rattle.books.specs.Forms.{Well}
 use Rattle.books.specs.declared.Alternative.{Alternative}
 use Rattle.books.specs.declared.Entry.{Entry}
 use Rattle.strategy.specs.Steps.{Ready, Ran}
-use Rattle.strategy.specs.Lives.{State, Call, Answer as Reply}
+use Rattle.strategy.specs.Lives.{State, Call}
 use Rattle.strategy.specs.Lives.Call.{run, value_of, choice_of}
 use Rattle.strategy.specs.Lives.Answer.{value, choice, refused}
 use Rattle.strategy.specs.Calls.{state, Shows, ShowsChoice, Prolongs}
 use Rattle.strategy.proofs.Making.{shows_value, refuses_value, shows_choice, refuses_choice, makes_run, refuses_run}
-use Rattle.solver.specs.Answers.{progressed, answered, call_of}
-use Rattle.solver.specs.declared.calls.Call.{Call as CallValue}
+use Rattle.solver.specs.Answers.{progressed, answered}
 use Rattle.solver.specs.declared.rounds.Progress.{Progress}
 
 module _ {V W : Type 0} (o : Ops V W) (l : Laws o) (m : List (List (Alternative V W))) (well : Well o m) (es : List (Entry V)) (n : ℕ) where
@@ -38,10 +37,3 @@ module _ {V W : Type 0} (o : Ops V W) (l : Laws o) (m : List (List (Alternative 
 
   pub told_no_run : (b : ℕ) (e : Refusal) (es' : List (Entry V)) → most_rounds < b → e ≡ nowhere BudgetTooLarge → es' ≡ es → Prolongs o m (run b) (refused (number_of e.reason)) (state es n) (state es' n)
   told_no_run b e es' h is same = refusal_is (run b) (state es n) (state es' n) e BudgetTooLarge is (subst (λ (ds : List (Entry V)). Prolongs o m (run b) (refused 32) (state es n) (state ds n)) (sym same) (refuses_run o l m well es n b h))
-
-  -- the call that a match has found
-  pub by_call : (call d : CallValue) (a : Reply V ⊥) (s s' : State V) → call ≡ d → Prolongs o m (call_of d) a s s' → Prolongs o m (call_of call) a s s'
-  by_call call d a s s' e p = subst (λ (f : CallValue). Prolongs o m (call_of f) a s s') (sym e) p
-
-  pub by_answer : (c : Call ⊥) (a b : Reply V ⊥) (s s' : State V) → a ≡ b → Prolongs o m c b s s' → Prolongs o m c a s s'
-  by_answer c a b s s' e p = subst (λ (f : Reply V ⊥). Prolongs o m c f s s') (sym e) p

@@ -9,7 +9,7 @@ use Rattle.solver.specs.declared.rounds.Progress.{Progress}
 use Rattle.solver.specs.declared.calls.Call.{Call}
 use Rattle.solver.specs.declared.calls.Call.TheVariants.{Round, Run, Restart, Value, Choice, Rounds}
 use Rattle.solver.specs.declared.calls.Answer.{Answer}
-use Rattle.solver.specs.declared.calls.Answer.TheVariants.{Made, Done, Shown, Chosen, Counted, Refused}
+use Rattle.solver.specs.declared.calls.Answer.TheVariants.{Made, Done, Shown, Chosen, Counted}
 
 -- what a round or a run came to
 abbrev pub progressed : {V : Type 0} → Progress → lives.Answer V ⊥
@@ -29,20 +29,22 @@ call_of (Value u) = value_of u
 call_of (Choice u) = choice_of u
 call_of Rounds = rounds_shown
 
-abbrev pub answer_of : {V : Type 0} → Answer V → lives.Answer V ⊥
-answer_of (Made p) = progressed p
-answer_of Done = done
-answer_of (Shown v) = value v
-answer_of (Chosen k) = choice k
-answer_of (Counted n) = number n
-answer_of (Refused e) = refused (number_of e.reason)
+abbrev pub told_of : {V : Type 0} → Answer V → lives.Answer V ⊥
+told_of (Made p) = progressed p
+told_of Done = done
+told_of (Shown v) = value v
+told_of (Chosen k) = choice k
+told_of (Counted n) = number n
+
+abbrev pub answer_of : {V : Type 0} → Result (Answer V) Refusal → lives.Answer V ⊥
+answer_of r = answered told_of r
 
 -- calls with their answers, in the order made
-abbrev pub paired : {V : Type 0} → List Call → List (Answer V) → List (lives.Event ⊥ V ⊥)
+abbrev pub paired : {V : Type 0} → List Call → List (Result (Answer V) Refusal) → List (lives.Event ⊥ V ⊥)
 paired [] answers = []
 paired (c ∷ calls) [] = []
 paired (c ∷ calls) (a ∷ answers) = lives.event (call_of c) (answer_of a) ∷ paired calls answers
 
 -- the history that they make, the latest first
-abbrev pub history : {V : Type 0} → List Call → List (Answer V) → List (lives.Event ⊥ V ⊥)
+abbrev pub history : {V : Type 0} → List Call → List (Result (Answer V) Refusal) → List (lives.Event ⊥ V ⊥)
 history calls answers = reverse (paired calls answers)

@@ -1,5 +1,5 @@
 -- What making a list of calls leaves: a whole life, with the promises at set-up and after every call.
-use Rattle.std.specs.Prelude.{◌≡◌, ℕ, ◌<◌, ◌≤◌, ◌⊎◌, List, length, take, drop, Option}
+use Rattle.std.specs.Prelude.{◌≡◌, ℕ, ◌<◌, ◌≤◌, ◌⊎◌, List, length, take, drop, Option, Result}
 use Rattle.kinds.specs.Kinds.{Ops}
 use Rattle.refusal.specs.Reasons.{nowhere}
 use Rattle.refusal.specs.declared.Refusal.{Refusal}
@@ -20,7 +20,7 @@ module _ {V W : Type 0} (o : Ops V W) (m : List (List (Alternative V W))) where
     pub life : Life o m unasked h past s
 
   -- the calls were made from set-up on, in the list es, and answered in the front of bs: the life that they make ends in the front of es' with n rounds shown; what lies behind stays
-  pub record LivedThrough (calls : List Call) (es : List (Entry V)) (bs : List (Answer V)) (n : ℕ) (es' : List (Entry V)) (bs' : List (Answer V)) : Type 0 where
+  pub record LivedThrough (calls : List Call) (es : List (Entry V)) (bs : List (Result (Answer V) Refusal)) (n : ℕ) (es' : List (Entry V)) (bs' : List (Result (Answer V) Refusal)) : Type 0 where
     pub room : length m ≤ length es
     pub answers : length calls ≤ length bs
     pub past : List (List (Option ℕ))
@@ -30,7 +30,7 @@ module _ {V W : Type 0} (o : Ops V W) (m : List (List (Alternative V W))) where
     pub behind_answers : drop (length calls) bs' ≡ drop (length calls) bs
 
   -- a list is too short, and nothing has changed
-  pub record TurnedBack (calls : List Call) (es : List (Entry V)) (bs : List (Answer V)) (e : Refusal) (es' : List (Entry V)) (bs' : List (Answer V)) : Type 0 where
+  pub record TurnedBack (calls : List Call) (es : List (Entry V)) (bs : List (Result (Answer V) Refusal)) (e : Refusal) (es' : List (Entry V)) (bs' : List (Result (Answer V) Refusal)) : Type 0 where
     pub short : (length es < length m) ⊎ (length bs < length calls)
     pub refusal : e ≡ nowhere ListTooShort
     pub same : es' ≡ es

@@ -1,20 +1,23 @@
 // An analysis of a book: strategy improvement in a lent list.
-ghost use Rattle.std.specs.Prelude.{◌≡◌, ◌<◌, ◌≤◌, length, MatchResult};
+ghost use Rattle.std.specs.Prelude.{◌≡◌, ◌+◌, ◌<◌, ◌≤◌, min, length, MatchResult, slice_index_or};
 ghost use Rattle.kinds.specs.Limits.{most_rounds};
 ghost use Rattle.refusal.specs.Reasons.{nowhere};
-ghost use Rattle.refusal.specs.declared.Reason.TheVariants.{BudgetTooLarge, ListTooShort};
+ghost use Rattle.refusal.specs.declared.Reason.TheVariants.{BudgetTooLarge, ListTooShort, NotThere};
 ghost use Rattle.strategy.specs.Lives.Call.{one_round, run, restart, value_of, choice_of, rounds_shown};
 ghost use Rattle.strategy.specs.Lives.Answer.{done, value as shown, choice as chosen, number};
 ghost use Rattle.strategy.specs.Theory.{Stands};
+ghost use Rattle.strategy.specs.Steps.{Ready, Ran};
 ghost use Rattle.strategy.specs.Calls.{fresh, Shows, ShowsChoice, Begins, Prolongs, ProlongsAny};
 ghost use Rattle.solver.specs.Answers.{progressed, answered};
 ghost use Rattle.solver.specs.Analyses.{state_of};
 
 use crate::rounds::{Progress, make_rounds};
-use crate::steps::{begin, run_within, show_choice, show_value};
 use books::{Book, Entry};
 use kinds::Kind;
 use refusal::{Reason, Refusal};
+
+// The largest budget that a run may have.
+pub const MOST_ROUNDS: usize = u16::MAX as usize;
 
 // The list that an analysis was lent, one entry for each unknown of its book, and the counted rounds since set-up or restart (65,535 if more).
 // Every call that takes a book is given the book of the set-up. With another one it stays within the list and ends, and says nothing.
@@ -24,7 +27,26 @@ pub struct Analysis<'a, K> {
     rounds: u16,
 }
 
+// Takes all choices back and gives every unknown the least value.
+fn clear<K: Kind>(list: &mut [Entry<K>])
+    ensures { list.new ≡ fresh K.Kind.ops (length list.old) }
+{
+    list.fill_with(|| Entry {
+        value: K::least(),
+        choice: None,
+    });
+}
+
 impl<'a, K: Kind> Analysis<'a, K> {
+    // An analysis in the whole list: nothing is chosen, all values are least.
+    pub(crate) fn begin(list: &'a mut [Entry<K>]) -> Analysis<'a, K>
+        ensures same_list { result.list.ghost_name ≡ list.entry.ghost_name }
+        ensures fresh { (result.list.now ≡ fresh K.Kind.ops (length list.old)) × (result.rounds ≡ 0) }
+    {
+        clear(list);
+        Analysis { list, rounds: 0 }
+    }
+
     // An analysis of the book in the front of the list: nothing is chosen, all values are least.
     pub fn set_up<B: Book<K>>(
         book: &B,
@@ -33,45 +55,60 @@ impl<'a, K: Kind> Analysis<'a, K> {
         ensures starts { MatchResult result (λ a. (length (B.Book.meaning book.now) ≤ length list.old) × (a.list.now ≡ fresh K.Kind.ops (length (B.Book.meaning book.now))) × (a.rounds ≡ 0) × Begins K.Kind.ops (B.Book.meaning book.now) (state_of a)) (λ e. (length list.old < length (B.Book.meaning book.now)) × (e ≡ nowhere ListTooShort)) }
         ensures theory { Stands K.Kind.ops }
     {
-        let count = book.count();
-        if list.len() < count {
+        let Some(front) = list.get_mut(0..book.count()) else {
             return Err(Refusal::unplaced(Reason::ListTooShort));
-        }
-        let list = &mut list[0..count];
-        begin(list);
-        Ok(Analysis { list, rounds: 0 })
+        };
+        Ok(Analysis::begin(front))
+    }
+
+    // Rounds until settled or the budget is used, counted.
+    fn advance<B: Book<K>>(&mut self, book: &B, budget: u16) -> Progress
+        ensures same_list { self.new.list.ghost_name ≡ self.old.list.ghost_name }
+        ensures ran { Ready K.Kind.ops (B.Book.meaning book.now) self.old.list.now → Ran K.Kind.ops (B.Book.meaning book.now) budget self.old.list.now result.rounds result.settled self.new.list.now }
+        ensures within { result.rounds ≤ budget }
+        ensures counted { self.new.rounds ≡ min (self.old.rounds + result.rounds) most_rounds }
+    {
+        let progress = make_rounds(book, self.list, budget);
+        self.rounds = self.rounds.saturating_add(progress.rounds);
+        progress
     }
 
     // One round.
     pub fn round<B: Book<K>>(&mut self, book: &B) -> Progress
-        ensures { Prolongs K.Kind.ops (B.Book.meaning book.now) one_round (progressed result) (state_of self.old) (state_of self.new) }
+        ensures life { Prolongs K.Kind.ops (B.Book.meaning book.now) one_round (progressed result) (state_of self.old) (state_of self.new) }
+        ensures same_list { self.new.list.ghost_name ≡ self.old.list.ghost_name }
     {
-        let progress = make_rounds(book, self.list, 1);
-        self.rounds = self.rounds.saturating_add(progress.rounds);
-        progress
+        self.advance(book, 1)
     }
 
     // Rounds until settled or the budget is used.
     pub fn run<B: Book<K>>(&mut self, book: &B, budget: usize) -> Result<Progress, Refusal>
         ensures life { Prolongs K.Kind.ops (B.Book.meaning book.now) (run budget) (answered progressed result) (state_of self.old) (state_of self.new) }
         ensures refusal { MatchResult result (λ p. (budget ≤ most_rounds) × (p.rounds ≤ budget)) (λ e. (most_rounds < budget) × (e ≡ nowhere BudgetTooLarge) × (state_of self.new ≡ state_of self.old)) }
+        ensures same_list { self.new.list.ghost_name ≡ self.old.list.ghost_name }
     {
-        match run_within(book, self.list, budget) {
-            Ok(progress) => {
-                self.rounds = self.rounds.saturating_add(progress.rounds);
-                Ok(progress)
-            }
-            Err(refusal) => Err(refusal),
-        }
+        let Ok(budget) = u16::try_from(budget) else {
+            return Err(Refusal::unplaced(Reason::BudgetTooLarge));
+        };
+        Ok(self.advance(book, budget))
     }
 
     // Takes all choices back: as after set-up.
     pub fn restart(&mut self)
         ensures life { ProlongsAny K.Kind.ops restart done (state_of self.old) (state_of self.new) }
         ensures fresh { (self.new.list.now ≡ fresh K.Kind.ops (length self.old.list.now)) × (self.new.rounds ≡ 0) }
+        ensures same_list { self.new.list.ghost_name ≡ self.old.list.ghost_name }
     {
-        begin(self.list);
+        clear(self.list);
         self.rounds = 0;
+    }
+
+    // The entry of an unknown.
+    fn entry_at(&self, unknown: usize) -> Result<Entry<K>, Refusal>
+        ensures { MatchResult result (λ e. (unknown < length self.now.list.now) × (e ≡ slice_index_or self.now.list.now unknown e)) (λ e. (length self.now.list.now ≤ unknown) × (e ≡ nowhere NotThere)) }
+    {
+        let entry = self.list.get(unknown).copied();
+        entry.ok_or(Refusal::unplaced(Reason::NotThere))
     }
 
     // The value of an unknown.
@@ -79,7 +116,7 @@ impl<'a, K: Kind> Analysis<'a, K> {
         ensures life { ProlongsAny K.Kind.ops (value_of unknown) (answered shown result) (state_of self.now) (state_of self.now) }
         ensures answer { Shows K.Kind.ops self.now.list.now unknown result }
     {
-        show_value(self.list, unknown)
+        Ok(self.entry_at(unknown)?.value)
     }
 
     // The alternative that an unknown has chosen, if any.
@@ -87,7 +124,7 @@ impl<'a, K: Kind> Analysis<'a, K> {
         ensures life { ProlongsAny K.Kind.ops (choice_of unknown) (answered chosen result) (state_of self.now) (state_of self.now) }
         ensures answer { ShowsChoice self.now.list.now unknown result }
     {
-        show_choice(self.list, unknown)
+        Ok(self.entry_at(unknown)?.choice)
     }
 
     // The counted rounds since set-up or restart, 65,535 if more.
@@ -95,7 +132,6 @@ impl<'a, K: Kind> Analysis<'a, K> {
         ensures life { ProlongsAny K.Kind.ops rounds_shown (number result) (state_of self.now) (state_of self.now) }
         ensures answer { result ≡ self.now.rounds }
     {
-        let Analysis { rounds, .. } = self;
-        *rounds
+        self.rounds
     }
 }

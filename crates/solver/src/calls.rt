@@ -1,13 +1,13 @@
 // Calls of an analysis as values, and any list of them made in a row.
 ghost use Rattle.std.specs.Prelude.{◌≡◌, ◌≤◌, length, take, drop, MatchResult};
-ghost use Rattle.strategy.specs.Lives.Answer.{value as shown, choice as chosen};
 ghost use Rattle.strategy.specs.Promises.{LivesStand};
 ghost use Rattle.strategy.specs.Calls.{state, Prolongs};
-ghost use Rattle.solver.specs.Answers.{call_of, answer_of, answered, history};
+ghost use Rattle.solver.specs.Answers.{call_of, answer_of, history};
+ghost use Rattle.solver.specs.Analyses.{state_of};
 ghost use Rattle.solver.specs.Whole.{LeadsOn, LivedThrough, TurnedBack};
 
-use crate::rounds::{Progress, make_rounds};
-use crate::steps::{begin, run_within, show_choice, show_value};
+use crate::analysis::Analysis;
+use crate::rounds::Progress;
 use books::{Book, Entry};
 use kinds::Kind;
 use refusal::{Reason, Refusal};
@@ -23,7 +23,7 @@ pub enum Call {
     Rounds,
 }
 
-// What a call answers: what a round or a run came to; done; a value; a choice; the counted rounds; or a refusal.
+// What a call answers that is not refused: what a round or a run came to; done; a value; a choice; or the counted rounds.
 #[derive(Clone, Copy)]
 pub enum Answer<K> {
     Made(Progress),
@@ -31,58 +31,25 @@ pub enum Answer<K> {
     Shown(K),
     Chosen(Option<usize>),
     Counted(u16),
-    Refused(Refusal),
 }
 
-// The answer for what may have been refused: a value, and a choice.
-fn value_answer<K: Kind>(res: Result<K, Refusal>) -> Answer<K>
-    ensures { answer_of result ≡ answered shown res }
-{
-    match res {
-        Ok(value) => Answer::Shown(value),
-        Err(refusal) => Answer::Refused(refusal),
-    }
-}
-
-fn choice_answer<K: Kind>(res: Result<Option<usize>, Refusal>) -> Answer<K>
-    ensures { answer_of result ≡ answered chosen res }
-{
-    match res {
-        Ok(choice) => Answer::Chosen(choice),
-        Err(refusal) => Answer::Refused(refusal),
-    }
-}
-
-// Makes one call on a list and its count of rounds.
-fn make_call<K: Kind, B: Book<K>>(
-    book: &B,
-    list: &mut [Entry<K>],
-    rounds: &mut u16,
-    call: Call,
-) -> Answer<K>
-    ensures { Prolongs K.Kind.ops (B.Book.meaning book.now) (call_of call) (answer_of result) (state list.old rounds.old) (state list.new rounds.new) }
-{
-    match call {
-        Call::Round => {
-            let progress = make_rounds(book, list, 1);
-            *rounds = rounds.saturating_add(progress.rounds);
-            Answer::Made(progress)
-        }
-        Call::Run(budget) => match run_within(book, list, budget) {
-            Ok(progress) => {
-                *rounds = rounds.saturating_add(progress.rounds);
-                Answer::Made(progress)
+impl<'a, K: Kind> Analysis<'a, K> {
+    // Makes one call.
+    fn make<B: Book<K>>(&mut self, book: &B, call: Call) -> Result<Answer<K>, Refusal>
+        ensures life { Prolongs K.Kind.ops (B.Book.meaning book.now) (call_of call) (answer_of result) (state_of self.old) (state_of self.new) }
+        ensures same_list { self.new.list.ghost_name ≡ self.old.list.ghost_name }
+    {
+        match call {
+            Call::Round => Ok(Answer::Made(self.round(book))),
+            Call::Run(budget) => Ok(Answer::Made(self.run(book, budget)?)),
+            Call::Restart => {
+                self.restart();
+                Ok(Answer::Done)
             }
-            Err(refusal) => Answer::Refused(refusal),
-        },
-        Call::Restart => {
-            begin(list);
-            *rounds = 0;
-            Answer::Done
+            Call::Value(unknown) => Ok(Answer::Shown(self.value(unknown)?)),
+            Call::Choice(unknown) => Ok(Answer::Chosen(self.choice(unknown)?)),
+            Call::Rounds => Ok(Answer::Counted(self.rounds())),
         }
-        Call::Value(unknown) => value_answer(show_value(list, unknown)),
-        Call::Choice(unknown) => choice_answer(show_choice(list, unknown)),
-        Call::Rounds => Answer::Counted(*rounds),
     }
 }
 
@@ -91,18 +58,18 @@ fn make_all<K: Kind, B: Book<K>>(
     book: &B,
     list: &mut [Entry<K>],
     calls: &[Call],
-    answers: &mut [Answer<K>],
+    answers: &mut [Result<Answer<K>, Refusal>],
 ) -> u16
     requires { length calls.now ≤ length answers.old }
     ensures life { length list.old ≡ length (B.Book.meaning book.now) → LeadsOn K.Kind.ops (B.Book.meaning book.now) (history calls.now (take (length calls.now) answers.new)) (state list.new result) }
     ensures behind { drop (length calls.now) answers.new ≡ drop (length calls.now) answers.old }
 {
-    let mut rounds = 0;
-    begin(list);
-    for place in 0..calls.len() {
-        answers[place] = make_call(book, list, &mut rounds, calls[place]);
+    let mut analysis = Analysis::begin(list);
+    // By index: of a slice written through an adapter of its `iter_mut` a proof learns only the length.
+    for (place, call) in calls.iter().enumerate() {
+        answers[place] = analysis.make(book, *call);
     }
-    rounds
+    analysis.rounds()
 }
 
 // Sets an analysis of the book up in the front of the list, makes the calls one after another, whatever they are, and puts their answers down in order.
@@ -111,7 +78,7 @@ pub fn make_calls<K: Kind, B: Book<K>>(
     book: &B,
     list: &mut [Entry<K>],
     calls: &[Call],
-    answers: &mut [Answer<K>],
+    answers: &mut [Result<Answer<K>, Refusal>],
 ) -> Result<u16, Refusal>
     ensures whole { MatchResult result (λ n. LivedThrough K.Kind.ops (B.Book.meaning book.now) calls.now list.old answers.old n list.new answers.new) (λ e. TurnedBack K.Kind.ops (B.Book.meaning book.now) calls.now list.old answers.old e list.new answers.new) }
     ensures law { LivesStand K.Kind.ops ⊥ ⊥ }

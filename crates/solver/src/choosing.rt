@@ -4,7 +4,7 @@ ghost use Rattle.books.specs.Entries.{values, Short};
 ghost use Rattle.strategy.specs.Solving.{Settled};
 ghost use Rattle.strategy.specs.Steps.{Switches, ImprovesAll};
 
-use books::{Book, Entry, right_side, rises, value_at};
+use books::{Book, Entry, right_side, rises};
 use kinds::Kind;
 
 // Switches one unknown to the first alternative that reaches its right side, if that is greater than its value. Says whether it did.
@@ -13,9 +13,13 @@ fn switch<K: Kind, B: Book<K>>(book: &B, list: &mut [Entry<K>], unknown: usize) 
     ensures still { result ≡ false → list.new ≡ list.old }
 {
     let best = right_side(book, list, unknown);
-    if unknown >= list.len() || best.value.at_most(list[unknown].value) {
+    let Some(entry) = list.get(unknown) else {
+        return false;
+    };
+    if best.value.at_most(entry.value) {
         return false;
     }
+    // By index: of a slice written through its `get_mut` a proof learns only the length.
     list[unknown].choice = best.first;
     true
 }
@@ -26,10 +30,9 @@ pub(crate) fn improve<K: Kind, B: Book<K>>(book: &B, list: &mut [Entry<K>]) -> b
     ensures still { result ≡ false → list.new ≡ list.old }
 {
     let mut switched = false;
+    // By index: each right side reads the whole list, in which one entry changes.
     for unknown in 0..list.len() {
-        if switch(book, list, unknown) {
-            switched = true;
-        }
+        switched |= switch(book, list, unknown);
     }
     switched
 }
@@ -38,10 +41,5 @@ pub(crate) fn improve<K: Kind, B: Book<K>>(book: &B, list: &mut [Entry<K>]) -> b
 pub(crate) fn is_settled<K: Kind, B: Book<K>>(book: &B, list: &[Entry<K>]) -> bool
     ensures { Short K.Kind.ops (values list.now) → length list.now ≡ length (B.Book.meaning book.now) → (result ≡ true) ↔ Settled K.Kind.ops (B.Book.meaning book.now) (values list.now) }
 {
-    for unknown in 0..list.len() {
-        if rises(book, list, unknown, value_at(list, unknown)) {
-            return false;
-        }
-    }
-    true
+    list.iter().enumerate().all(|(unknown, entry)| !rises(book, list, unknown, entry.value))
 }

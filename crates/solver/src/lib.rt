@@ -6,8 +6,7 @@ mod calls;
 mod choosing;
 mod paths;
 mod rounds;
-mod steps;
 
-pub use analysis::Analysis;
+pub use analysis::{Analysis, MOST_ROUNDS};
 pub use calls::{Answer, Call, make_calls};
 pub use rounds::Progress;

@@ -1,5 +1,5 @@
 // Path evaluation: the values of a strategy, by sweeps in place from above.
-ghost use Rattle.std.specs.Prelude.{◌≡◌, ◌<◌, true, false, ◌↔◌, length, None, slice_index_or};
+ghost use Rattle.std.specs.Prelude.{◌≡◌, ◌<◌, true, false, ◌↔◌, length, OnSome};
 ghost use Rattle.kinds.specs.Limits.{most_items};
 ghost use Rattle.kinds.specs.Kinds.{Made};
 ghost use Rattle.strategy.specs.Strategies.{chosen as chosen_of};
@@ -9,28 +9,17 @@ ghost use Rattle.strategy.specs.Steps.{Relaxes, SweepsAll, ShortSweep, opened_va
 use books::{Alternative, Book, Entry, smaller_term};
 use kinds::Kind;
 
-// The choice of an unknown, if it has one.
-fn choice_at<K: Kind>(list: &[Entry<K>], unknown: usize) -> Option<usize>
-    ensures { result ≡ slice_index_or (choices list.now) unknown None }
-{
-    match list.get(unknown) {
-        Some(entry) => entry.choice,
-        None => None,
-    }
-}
-
-// The alternative that an unknown has chosen, if it has chosen one that is there.
+// The alternative that an unknown of the list has chosen, if it has chosen one that is there.
 fn chosen<K: Kind, B: Book<K>>(
     book: &B,
     list: &[Entry<K>],
     unknown: usize,
 ) -> Option<Alternative<K, K::Weight>>
-    ensures { result ≡ chosen_of (B.Book.meaning book.now) (choices list.now) unknown }
+    ensures value { result ≡ chosen_of (B.Book.meaning book.now) (choices list.now) unknown }
+    ensures inside { OnSome result (unknown < length list.now) }
 {
-    match choice_at(list, unknown) {
-        Some(number) => book.alternative(unknown, number).ok(),
-        None => None,
-    }
+    let number = list.get(unknown)?.choice?;
+    book.alternative(unknown, number).ok()
 }
 
 // Gives one unknown the smaller of its chosen terms. Says whether its value changed.
@@ -43,9 +32,10 @@ fn relax<K: Kind, B: Book<K>>(book: &B, list: &mut [Entry<K>], unknown: usize) -
         return false;
     };
     let value = smaller_term(choice.terms, list);
-    if unknown >= list.len() || same(value, list[unknown].value) {
+    if same(value, list[unknown].value) {
         return false;
     }
+    // By index: of a slice written through its `get_mut` a proof learns only the length.
     list[unknown].value = value;
     true
 }
@@ -64,10 +54,9 @@ fn sweep<K: Kind, B: Book<K>>(book: &B, list: &mut [Entry<K>]) -> bool
     ensures still { result ≡ false → list.new ≡ list.old }
 {
     let mut changed = false;
+    // By index: each term reads the whole list, in which one entry changes.
     for unknown in 0..list.len() {
-        if relax(book, list, unknown) {
-            changed = true;
-        }
+        changed |= relax(book, list, unknown);
     }
     changed
 }

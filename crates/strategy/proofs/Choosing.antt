@@ -1,8 +1,10 @@
 -- improvement of a strategy in the list of entries, one unknown after another
-use Rattle.std.proofs.Common.{◌≡◌, ℕ, ◌+◌, ◌<◌, ◌≤◌, Bool, true, false, cond, not, ◌↔◌, List, [], length, get_or, set, None, Option, sym, refl, ap, ◌∙◌, subst, true≢false, not-suc-le-zero, arith, get_or-set_other, get_or-set_same}
+use Rattle.std.proofs.Common.{◌≡◌, ℕ, ◌+◌, ◌<◌, ◌≤◌, Bool, true, false, cond, not, ◌||◌, ◌↔◌, MatchBool, List, [], length, get_or, set, None, Option, sym, refl, ap, ◌∙◌, subst, true≢false, not-suc-le-zero, arith, get_or-set_other, get_or-set_same}
 use mathlib.Core.Bool.{false≢true}
 use native.Mathlib.Decide.{ℕ_discrete}
-use Rattle.std.proofs.lemmas.List.FromFn.{length-map-range_with_len, get_or-map-range_with_len}
+use Rattle.std.specs.List.{AllWithin, HoldsAt, enumerate_from}
+use Rattle.std.proofs.lemmas.Bool.{or_parts}
+use Rattle.std.proofs.lemmas.List.FromFn.{length-map-range_with_len, get_or-map-range_with_len, length-enumerate_from, get_or-enumerate_from}
 use Rattle.std.proofs.lemmas.List.{length-map, get_or-map, map-set, set-get_or, ext_get_or}
 use Rattle.kinds.specs.Limits.{most_items}
 use Rattle.kinds.specs.Kinds.{Ops, Laws, Made}
@@ -24,6 +26,10 @@ not_false false e = absurd (false≢true e)
 not_true : (b : Bool) → true ≡ not b → b ≡ false
 not_true true e = absurd (true≢false e)
 not_true false e = refl
+
+one_of : (a b : Bool) → (a || b) ≡ true → (a ≡ true → ⊥) → (b ≡ true → ⊥) → ⊥
+one_of true b e f g = f refl
+one_of false b e f g = g e
 
 -- entries
 pub value_is : {V W : Type 0} (o : Ops V W) (es : List (Entry V)) (u : ℕ) (d : Entry V) → u < length es → (get_or es u d).value ≡ at o (values es) u
@@ -92,30 +98,20 @@ module _ {V W : Type 0} (o : Ops V W) (l : Laws o) (m : List (List (Alternative 
     ahead_more : (j : ℕ) → i + 1 ≤ j → get_or (choices es') j None ≡ get_or (choices es₀) j None
     ahead_more j h = ap (λ (k : List (Option ℕ)). get_or k j None) q.choice ∙ get_or-set_other (choices es) i j _ None (omega arith) ∙ p.ahead j (omega arith)
 
-    pub improving_stays : r ≡ false → Improving es₀ (i + 1) t es'
-    improving_stays e = record {
+    pub improving_more : Improving es₀ (i + 1) (t || r) es'
+    improving_more = record {
       kept = q.kept ∙ p.kept;
       done = done_more;
       ahead = ahead_more;
-      none = λ f j h. below j h (ℕ_discrete j i) f;
-      some = λ f all. p.some f (λ j h. all j (omega arith));
+      none = λ f j h. let no = or_parts t r f in below j h (ℕ_discrete j i) no.0 no.1;
+      some = λ f all. one_of t r f (λ e. p.some e (λ j h. all j (omega arith)))
+          (λ e. true≢false (sym (all i (omega arith)) ∙ ap (λ (y : List V). o.at_most (right o m y i) (at o y i)) (sym p.kept) ∙ not_true _ (sym e ∙ q.said)));
     }
       where
-        under : o.at_most (right o m (values es) i) (at o (values es) i) ≡ true
-        under = not_false _ (sym e ∙ q.said)
-
-        below : (j : ℕ) → j < i + 1 → Dec (j ≡ i) → t ≡ false → Le o (right o m (values es₀) j) (at o (values es₀) j)
-        below j h (yes s) f = subst (λ (k : ℕ). Le o (right o m (values es₀) k) (at o (values es₀) k)) (sym s) (ap (λ (y : List V). o.at_most (right o m y i) (at o y i)) (sym p.kept) ∙ under)
-        below j h (no s) f = p.none f j (omega arith)
-
-    pub improving_moves : r ≡ true → Improving es₀ (i + 1) true es'
-    improving_moves e = record {
-      kept = q.kept ∙ p.kept;
-      done = done_more;
-      ahead = ahead_more;
-      none = λ f. absurd (true≢false f);
-      some = λ f all. true≢false (sym (all i (omega arith)) ∙ ap (λ (y : List V). o.at_most (right o m y i) (at o y i)) (sym p.kept) ∙ not_true _ (sym e ∙ q.said));
-    }
+        below : (j : ℕ) → j < i + 1 → Dec (j ≡ i) → t ≡ false → r ≡ false → Le o (right o m (values es₀) j) (at o (values es₀) j)
+        below j h (yes s) f e =
+            subst (λ (k : ℕ). Le o (right o m (values es₀) k) (at o (values es₀) k)) (sym s) (ap (λ (y : List V). o.at_most (right o m y i) (at o y i)) (sym p.kept) ∙ not_false _ (sym e ∙ q.said))
+        below j h (no s) f e = p.none f j (omega arith)
 
   pub improved_all : (es₀ : List (Entry V)) (i : ℕ) (t : Bool) (es : List (Entry V)) → Improving es₀ i t es → length es₀ ≡ length m → length es ≡ length es₀ → i ≡ length es → ImprovesAll o m es₀ t es
   improved_all es₀ i t es p len long end = record {
@@ -129,19 +125,27 @@ module _ {V W : Type 0} (o : Ops V W) (l : Laws o) (m : List (List (Alternative 
       place j h = let lt : j < length es = rw (length-map es (λ (e : Entry V). e.choice)) at h in
           p.done j (omega arith) ∙ sym (get_or-map-range_with_len (switched o m (values es₀) (choices es₀)) 0 (length m) j j None (omega arith) (omega arith))
 
-  -- the settled test: no right side below i is greater
-  abbrev pub Resting : List V → ℕ → Type 0
-  Resting x i = (j : ℕ) → j < i → Le o (right o m x j) (at o x j)
+  -- whether the right side of a numbered entry is at most its value
+  abbrev pub Under : List V → Bool → ℕ × Entry V → Type 0
+  Under x b p = Made o most_items p.1.value → o.at_most (right o m x p.0) p.1.value ≡ b
 
-  pub resting_more : (x : List V) (i : ℕ) (r : Bool) → r ≡ false → r ≡ not (o.at_most (right o m x i) (at o x i)) → Resting x i → Resting x (i + 1)
-  resting_more x i r e f h j lt = go (ℕ_discrete j i)
-    where
-      go : Dec (j ≡ i) → Le o (right o m x j) (at o x j)
-      go (yes s) = subst (λ (k : ℕ). Le o (right o m x k) (at o x k)) (sym s) (not_false _ (sym e ∙ f))
-      go (no s) = h j (omega arith)
+  module _ (es : List (Entry V)) (h : Short o (values es)) where
+    under_at : (b : Bool) (k : ℕ) → k < length es → HoldsAt (Under (values es) b) (enumerate_from 0 es) k → o.at_most (right o m (values es) k) (at o (values es) k) ≡ b
+    under_at b k lt f =
+        let d : Entry V = record { value = o.least; choice = None } in
+        let e = value_is o es k d lt in
+        let z : 0 + k ≡ k = omega arith in
+        subst (λ (y : V). o.at_most (right o m (values es) k) y ≡ b) e
+        (subst (λ (p : ℕ × Entry V). Under (values es) b p) (get_or-enumerate_from 0 es k (0, d) lt ∙ ap (λ (j : ℕ). (j, get_or es k d)) z) (f (0, d)) (subst (λ (y : V). Made o most_items y) (sym e) (made_more o l most_items (omega arith) (h k))))
 
-  pub risen : (x : List V) (i : ℕ) (r : Bool) → r ≡ true → r ≡ not (o.at_most (right o m x i) (at o x i)) → i < length m → (false ≡ true) ↔ Settled o m x
-  risen x i r e f h = (λ p. absurd (false≢true p), λ s. absurd (true≢false (sym (s i h) ∙ not_true _ (sym e ∙ f))))
-
-  pub rested : (x : List V) → Resting x (length m) → (true ≡ true) ↔ Settled o m x
-  rested x h = (λ p. h, λ s. refl)
+    -- the settled test of all of them
+    pub settled_all : length es ≡ length m → (r : Bool) →
+        MatchBool r (AllWithin (Under (values es) true) (enumerate_from 0 es) 0 (length (enumerate_from 0 es))) ((k : ℕ) × (k < length (enumerate_from 0 es)) × HoldsAt (Under (values es) false) (enumerate_from 0 es) k) →
+        (r ≡ true) ↔ Settled o m (values es)
+    settled_all len true all = (λ e u lt. under_at true u (omega arith) (λ d. all u d (omega arith) (let n = length-enumerate_from 0 es in omega arith)), λ s. refl)
+    settled_all len false w =
+        let n = length-enumerate_from 0 es in
+        let lt : w.0 < length es = omega (arith, w.1) in (
+          λ e. absurd (false≢true e),
+          λ s. absurd (true≢false (sym (s w.0 (omega arith)) ∙ under_at false w.0 lt w.2)),
+        )

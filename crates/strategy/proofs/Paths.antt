@@ -1,20 +1,16 @@
 -- path evaluation in the list of entries, by sweeps in place
-use Rattle.std.proofs.Common.{◌≡◌, ℕ, ◌+◌, ◌-◌, ◌<◌, ◌≤◌, true, ltb, List, [], ◌∷◌, map, length, get_or, set, Some, None, Option, Result, sym, refl, ap, ◌∙◌, subst, subst₂, arith, ltb-true}
-use Rattle.std.proofs.lemmas.List.{length-map, get_or-map, map-set, set-get_or, get_or_past, ext_get_or}
+use Rattle.std.proofs.Common.{◌≡◌, ℕ, ◌+◌, ◌-◌, ◌<◌, ◌≤◌, List, [], ◌∷◌, map, length, get_or, set, Some, None, Option, sym, refl, ap, ◌∙◌, subst, subst₂, arith}
+use Rattle.std.proofs.lemmas.List.{length-map, get_or-map, map-set, set-get_or, ext_get_or}
 use Rattle.std.proofs.lemmas.List.FromFn.{length-map-range_with_len, get_or-map-range_with_len}
-use Rattle.std.specs.Result.{result_ok}
-use Rattle.refusal.specs.declared.Refusal.{Refusal}
 use Rattle.kinds.specs.Limits.{most_items}
 use Rattle.kinds.specs.Kinds.{Ops, Laws, Made}
 use Rattle.books.specs.Books.{at, terms, nth}
 use Rattle.books.specs.Forms.{Among, WellTerm, Well}
-use Rattle.books.specs.Questions.{found}
 use Rattle.books.specs.Entries.{values, choices, Short}
 use Rattle.books.specs.declared.Term.{Term}
 use Rattle.books.specs.declared.Alternative.{Alternative}
 use Rattle.books.specs.declared.Entry.{Entry}
 use Rattle.books.proofs.Asked.{nth_inside}
-use Rattle.books.proofs.Worth.{no_option}
 use Rattle.books.proofs.Sizes.{made_more, made_terms}
 use Rattle.strategy.specs.Strategies.{pick, chosen}
 use Rattle.strategy.specs.Sweeping.{relaxed, relaxed_by, swept, sweeps, opened, opening, Replaced}
@@ -40,13 +36,6 @@ module _ {V : Type 0} where
   pub revalued_values : (es : List (Entry V)) (u : ℕ) (d : Entry V) (v : V) → values (revalued es u d v) ≡ set (values es) u v
   revalued_values es u d v = map-set (λ (e : Entry V). e.value) es u _
 
-  -- the choice of an unknown in the list, and of one that is not there
-  pub choice_inside : (es : List (Entry V)) (u : ℕ) (e : Entry V) → true ≡ ltb u (length es) → e ≡ get_or es u e → e.choice ≡ get_or (choices es) u None
-  choice_inside es u e h is = ap (λ (d : Entry V). d.choice) is ∙ choice_is es u e (ltb-true u (length es) (sym h))
-
-  pub choice_outside : (es : List (Entry V)) (u : ℕ) → length es ≤ u → None ≡ get_or (choices es) u None
-  choice_outside es u h = sym (get_or_past (choices es) u None (simp length-map h))
-
 module _ {V W : Type 0} (o : Ops V W) (l : Laws o) (m : List (List (Alternative V W))) where
   -- what is chosen for u, by the answers for it
   pub chosen_none : (es : List (Entry V)) (u : ℕ) → get_or (choices es) u None ≡ None → chosen m (choices es) u ≡ None
@@ -55,17 +44,7 @@ module _ {V W : Type 0} (o : Ops V W) (l : Laws o) (m : List (List (Alternative 
   pub chosen_is : (es : List (Entry V)) (u k : ℕ) → get_or (choices es) u None ≡ Some k → chosen m (choices es) u ≡ nth (get_or m u []) k
   chosen_is es u k e = ap (λ (j : Option ℕ). pick (get_or m u []) j) e
 
-  pub answered : (es : List (Entry V)) (u k : ℕ) (r : Result (Alternative V W) Refusal) → Some k ≡ get_or (choices es) u None → r ≡ found (nth (get_or m u []) k) → result_ok r ≡ chosen m (choices es) u
-  answered es u k r e f = ap result_ok f ∙ ok_found (nth (get_or m u []) k) ∙ sym (chosen_is es u k (sym e))
-    where
-      ok_found : (x : Option (Alternative V W)) → result_ok (found x) ≡ x
-      ok_found None = refl
-      ok_found (Some a) = refl
-
-  -- one unknown relaxed: where it has no choice, where its value is the same, and where it changes
-  pub relax_none : (es : List (Entry V)) (u : ℕ) → None ≡ chosen m (choices es) u → Relaxes o m es u es
-  relax_none es u e = record { values = ap (λ (k : Option (Alternative V W)). relaxed_by o (values es) u k) e }
-
+  -- one unknown relaxed: where its value is the same, and where it changes
   module _ (well : Well o m) (es : List (Entry V)) (h : Short o (values es)) (u : ℕ) (a : Alternative V W) (e : Some a ≡ chosen m (choices es) u) (v : V)
       (f : ((t : Term V W) → Among t a.terms → WellTerm o (length m) t) → v ≡ terms o (values es) a.terms) where
     each : (t : Term V W) → Among t a.terms → WellTerm o (length m) t
@@ -79,9 +58,6 @@ module _ {V W : Type 0} (o : Ops V W) (l : Laws o) (m : List (List (Alternative 
 
     pub relax_same : v ≡ at o (values es) u → Relaxes o m es u es
     relax_same q = record { values = sym (ap (λ (y : V). set (values es) u y) q ∙ set-get_or (values es) u o.least) ∙ relaxed_is }
-
-    pub relax_past : length es ≤ u → Relaxes o m es u es
-    relax_past p = absurd (no_option (ap (λ (k : Option ℕ). pick (get_or m u []) k) (choice_outside es u p) ∙ sym e))
 
     pub relax_moves : (d : Entry V) → Relaxes o m es u (revalued es u d v)
     relax_moves d = record { values = revalued_values es u d v ∙ relaxed_is }

@@ -1,9 +1,10 @@
-use Rattle.std.proofs.Common.{◌≡◌, ℕ, ◌+◌, ◌<◌, List, [], length, take, drop, sym, refl, ap, ◌∙◌, subst, arith}
-use Rattle.std.proofs.lemmas.List.{take_all, drop-set-lt, drop-drop, length-replicate}
+use Rattle.std.proofs.Common.{◌≡◌, ℕ, ◌+◌, ◌<◌, List, [], length, take, drop, sym, refl, ap, ◌∙◌, subst, subst₂, arith, rules}
+use Rattle.std.proofs.lemmas.List.{take_all, drop-set-lt, drop-drop}
 use Rattle.books.specs.declared.Entry.{Entry}
 use Rattle.strategy.specs.Lives.{Event}
 use Rattle.strategy.specs.Calls.{state, Begins}
 use Rattle.strategy.proofs.Making.{begins}
+use Rattle.solver.specs.Analyses.{state_of}
 use Rattle.solver.specs.Answers.{history}
 use Rattle.solver.specs.Whole.{LeadsOn}
 use Rattle.solver.proofs.Rows.{history_more}
@@ -13,13 +14,14 @@ pub loop-place-init : goal.loop-place-init
 loop-place-init g c =
     let o = g.K.Kind.ops in
     let m = g.B.Book.meaning c.args.book.now in
-    let n = length c.args.list.now in
-    let e = c.begin.ensures in (
-      λ len.
-          let b = subst (λ (ds : List (Entry _)). Begins o m (state ds 0)) (sym e) (begins o g.met.K.Kind.laws m (g.met.B.Book.well c.args.book.now) n (sym (ap length e ∙ length-replicate n _) ∙ len)) in
-          record { past = []; life = b.life },
-      refl,
-    )
+    let begun = c.begin-analysis.ensures.fresh in
+    record {
+      same_list = refl;
+      life = λ len.
+          let b = subst₂ (λ (ds : List (Entry _)) (n : ℕ). Begins o m (state ds n)) (sym begun.0) (sym begun.1) (begins o g.met.K.Kind.laws m (g.met.B.Book.well c.args.book.now) (length c.args.list.now) len) in
+          record { past = []; life = b.life };
+      behind = refl;
+    }
 
 pub loop-place-preserved : goal.loop-place-preserved
 loop-place-preserved g c =
@@ -29,13 +31,15 @@ loop-place-preserved g c =
     let cs = c.args.calls.now in
     let bs = c.loop-place.answers in
     let lt : i < length cs = omega arith in
-    let gt : i < length bs = omega (arith, c.requires) in (
-      λ len.
-          let q = c.loop-place.invariant.0 len in
-          let r = c.make_call.ensures (history (take i cs) (take i bs)) q.past q.life in
-          subst (λ (h : List (Event ⊥ _ ⊥)). LeadsOn o m h (state c.make_call.new.list c.make_call.new.rounds)) (sym (history_more cs bs i _ c.make_call.result lt gt)) (record { past = r.0; life = r.1 }),
-      drop-set-lt (i + 1) bs i c.make_call.result (omega arith) ∙ sym (drop-drop 1 i bs) ∙ ap (λ (ds : List _). drop 1 ds) c.loop-place.invariant.1 ∙ drop-drop 1 i c.args.answers.now,
-    )
+    let gt : i < length bs = omega (arith, c.requires) in
+    record {
+      same_list = c.make.ensures.same_list ∙ c.loop-place.invariant.same_list;
+      life = λ len.
+          let q = c.loop-place.invariant.life len in
+          let r = c.make.ensures.life (history (take i cs) (take i bs)) q.past q.life in
+          subst (λ (h : List (Event ⊥ _ ⊥)). LeadsOn o m h (state_of c.make.new.self)) (sym (history_more cs bs i _ c.make.result lt gt)) (record { past = r.0; life = r.1 });
+      behind = drop-set-lt (i + 1) bs i c.make.result (omega arith) ∙ sym (drop-drop 1 i bs) ∙ ap (λ (ds : List _). drop 1 ds) c.loop-place.invariant.behind ∙ drop-drop 1 i c.args.answers.now;
+    }
 
 pub returns : goal.returns
 returns g c =
@@ -46,8 +50,8 @@ returns g c =
     let e : c.loop-place.place ≡ length cs = omega arith in
     record {
       life = λ len.
-          let start : length c.begin.new.list ≡ length m = ap length c.begin.ensures ∙ length-replicate (length c.args.list.now) _ ∙ len in
-          subst (λ (h : List (Event ⊥ _ ⊥)). LeadsOn o m h (state c.loop-place.list c.loop-place.rounds))
-          (ap (λ (k : ℕ). history (take k cs) (take k bs)) e ∙ ap (λ (ds : List _). history ds (take (length cs) bs)) (take_all (length cs) cs (omega arith))) (c.loop-place.invariant.0 start);
-      behind = subst (λ (k : ℕ). drop k bs ≡ drop k c.args.answers.now) e c.loop-place.invariant.1;
+          let life = subst (λ (h : List (Event ⊥ _ ⊥)). LeadsOn o m h (state_of c.loop-place.analysis))
+          (ap (λ (k : ℕ). history (take k cs) (take k bs)) e ∙ ap (λ (ds : List _). history ds (take (length cs) bs)) (take_all (length cs) cs (omega arith))) (c.loop-place.invariant.life len) in
+          subst₂ (λ (ds : List (Entry _)) (n : ℕ). LeadsOn o m (history cs (take (length cs) bs)) (state ds n)) {x = c.loop-place.analysis.list.now} (search rules) (sym c.rounds.ensures.answer) life;
+      behind = subst (λ (k : ℕ). drop k bs ≡ drop k c.args.answers.now) e c.loop-place.invariant.behind;
     }

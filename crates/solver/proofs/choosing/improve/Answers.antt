@@ -1,8 +1,8 @@
-use Rattle.std.proofs.Common.{◌+◌, ◌<◌, Bool, List, length, sym, refl, ◌∙◌, subst, true≢false, arith}
-use Rattle.books.specs.Entries.{values, Short}
-use Rattle.strategy.proofs.Choosing.{Improving, improving_none, improving_stays, improving_moves, improved_all}
+use Rattle.std.proofs.Common.{◌<◌, List, length, sym, refl, ◌∙◌, subst, arith}
+use Rattle.books.specs.Entries.{Short}
+use Rattle.std.proofs.lemmas.Bool.{or_parts}
+use Rattle.strategy.proofs.Choosing.{improving_none, improving_more, improved_all}
 use Rattle.solver.proofs.choosing.improve.Goals as goal
-use Rattle.solver.proofs.choosing.improve.Goals.{then-switch, else-switch}
 
 pub loop-unknown-init : goal.loop-unknown-init
 loop-unknown-init g c = (λ h. improving_none g.K.Kind.ops g.met.K.Kind.laws (g.B.Book.meaning c.args.book.now) c.args.list.now, λ e. refl)
@@ -12,22 +12,16 @@ loop-unknown-preserved g c =
     let o = g.K.Kind.ops in
     let l = g.met.K.Kind.laws in
     let m = g.B.Book.meaning c.args.book.now in
-    let lt : c.loop-unknown.unknown < length c.loop-unknown.list = omega arith in
-    let short = λ (h : Short o (values c.args.list.now)). subst (λ (x : List _). Short o x) (sym (c.loop-unknown.invariant.0 h).kept) h in
-    elim c.if-switch.branch [
-      | then-switch w ↦ (
-        λ h. subst (λ (t : Bool). Improving o l m c.args.list.now (c.loop-unknown.unknown + 1) t c.switch.new.list) (sym w.switched-is)
-            (improving_moves o l m c.args.list.now c.loop-unknown.unknown c.loop-unknown.switched c.loop-unknown.list c.switch.new.list (c.loop-unknown.invariant.0 h) lt c.switch.result
-            (c.switch.ensures.switches (short h) lt) w.if-switch.true),
-        λ e. absurd (true≢false (sym w.switched-is ∙ e)),
-      )
-      | else-switch w ↦ (
-        λ h. subst (λ (t : Bool). Improving o l m c.args.list.now (c.loop-unknown.unknown + 1) t c.switch.new.list) (sym w.switched-is)
-            (improving_stays o l m c.args.list.now c.loop-unknown.unknown c.loop-unknown.switched c.loop-unknown.list c.switch.new.list (c.loop-unknown.invariant.0 h) lt c.switch.result
-            (c.switch.ensures.switches (short h) lt) w.if-switch.false),
-        λ e. c.switch.ensures.still w.if-switch.false ∙ c.loop-unknown.invariant.1 (sym w.switched-is ∙ e),
-      )
-    ]
+    let es = c.args.list.now in
+    let lt : c.loop-unknown.unknown < length c.loop-unknown.list = omega arith in (
+      λ h.
+          let inv = c.loop-unknown.invariant.0 h in
+          improving_more o l m es c.loop-unknown.unknown c.loop-unknown.switched c.loop-unknown.list c.switch-switched.new.list inv lt c.switch-switched.result
+          (c.switch-switched.ensures.switches (subst (λ (x : List _). Short o x) (sym inv.kept) h) lt),
+      λ e.
+          let no = or_parts c.loop-unknown.switched c.switch-switched.result e in
+          c.switch-switched.ensures.still no.1 ∙ c.loop-unknown.invariant.1 no.0,
+    )
 
 pub returns : goal.returns
 returns g c = record {

@@ -1,10 +1,10 @@
-use Rattle.std.proofs.Common.{◌≡◌, ℕ, ◌≤◌, List, length, Option, sym, refl, ap, ◌∙◌, subst, true≢false, arith}
+use Rattle.std.proofs.Common.{◌≡◌, ℕ, ◌≤◌, List, length, Option, sym, refl, ap, ◌∙◌, subst, arith}
+use Rattle.std.proofs.lemmas.Bool.{or_parts}
 use Rattle.books.specs.Entries.{values, choices, Short}
 use Rattle.strategy.specs.Strategies.{chosen}
 use Rattle.strategy.specs.Sweeping.{relaxed, swept}
 use Rattle.strategy.proofs.Loops.{swept_more}
 use Rattle.solver.proofs.paths.sweep.Goals as goal
-use Rattle.solver.proofs.paths.sweep.Goals.{then-relax, else-relax}
 
 pub loop-unknown-init : goal.loop-unknown-init
 loop-unknown-init g c = (λ h. refl, refl, λ e. refl)
@@ -19,15 +19,14 @@ loop-unknown-preserved g c =
     let inv = c.loop-unknown.invariant in (
       λ h.
           let e = inv.0 h in
-          (c.relax.ensures.relaxes (subst (λ (x : List _). Short o x) (sym e) (h i le))).values
+          (c.relax-changed.ensures.relaxes (subst (λ (x : List _). Short o x) (sym e) (h i le))).values
           ∙ ap (λ (s : List (Option ℕ)). relaxed o (chosen m s) (values c.loop-unknown.list) i) inv.1
           ∙ ap (λ (x : List _). relaxed o (chosen m (choices es)) x i) e
           ∙ sym (swept_more o g.met.K.Kind.laws (chosen m (choices es)) (values es) i),
-      c.relax.ensures.strategy ∙ inv.1,
-      λ e. elim c.if-relax.branch [
-        | then-relax w ↦ absurd (true≢false (sym w.changed-is ∙ e))
-        | else-relax w ↦ c.relax.ensures.still w.if-relax.false ∙ inv.2 (sym w.changed-is ∙ e)
-      ],
+      c.relax-changed.ensures.strategy ∙ inv.1,
+      λ e.
+          let no = or_parts c.loop-unknown.changed c.relax-changed.result e in
+          c.relax-changed.ensures.still no.1 ∙ inv.2 no.0,
     )
 
 pub returns : goal.returns

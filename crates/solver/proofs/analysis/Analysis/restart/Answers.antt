@@ -1,4 +1,4 @@
-use Rattle.std.proofs.Common.{List, sym, refl, subst}
+use Rattle.std.proofs.Common.{List, sym, subst}
 use Rattle.books.specs.declared.Entry.{Entry}
 use Rattle.strategy.specs.Lives.Call.{restart}
 use Rattle.strategy.specs.Lives.Answer.{done}
@@ -6,11 +6,8 @@ use Rattle.strategy.specs.Calls.{state, Prolongs}
 use Rattle.strategy.proofs.Making.{restarts}
 use Rattle.solver.proofs.analysis.Analysis.restart.Goals as goal
 
-pub returns : goal.returns
-returns g c =
+pub returns-clause-life : goal.returns-clause-life
+returns-clause-life g c m well =
     let es = c.args.self.now.list.now in
     let n = c.args.self.now.rounds in
-    record {
-      life = λ m well. subst (λ (ds : List (Entry _)). Prolongs g.K.Kind.ops m restart done (state es n) (state ds 0)) (sym c.begin.ensures) (restarts g.K.Kind.ops g.met.K.Kind.laws m well es n);
-      fresh = (c.begin.ensures, refl);
-    }
+    subst (λ (ds : List (Entry _)). Prolongs g.K.Kind.ops m restart done (state es n) (state ds 0)) (sym c.clear.ensures) (restarts g.K.Kind.ops g.met.K.Kind.laws m well es n)

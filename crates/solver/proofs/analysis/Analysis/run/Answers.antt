@@ -1,23 +1,24 @@
-use Rattle.std.proofs.Common.{List, ap}
-use Rattle.books.specs.declared.Entry.{Entry}
-use Rattle.strategy.specs.Calls.{state}
+use Rattle.std.proofs.Common.{ℕ, ◌≤◌, refl, subst, arith, rules}
+use Rattle.kinds.specs.Limits.{most_rounds}
+use Rattle.strategy.specs.Lives.Call.{run}
+use Rattle.strategy.specs.Calls.{state, Prolongs}
+use Rattle.solver.specs.Answers.{progressed}
+use Rattle.solver.specs.Analyses.{state_of}
 use Rattle.solver.proofs.Told.{told_run, told_no_run}
 use Rattle.solver.proofs.analysis.Analysis.run.Goals as goal
 
-pub returns-in-Ok : goal.returns-in-Ok
-returns-in-Ok g c =
-    let said = c.in-Ok.ensures in
-    record {
-      life = told_run g.K.Kind.ops g.met.K.Kind.laws (g.B.Book.meaning c.args.book.now) (g.met.B.Book.well c.args.book.now) c.args.self.now.list.now c.args.self.now.rounds
-          c.args.budget c.in-Ok.progress c.run_within.new.list c.saturating_add-self.result said.0 said.1 said.2 c.saturating_add-self.ensures;
-      refusal = (said.0, said.1);
-    }
+pub returns-in_default-clause-life : goal.returns-in_default-clause-life
+returns-in_default-clause-life g c =
+    told_no_run g.K.Kind.ops g.met.K.Kind.laws (g.B.Book.meaning c.args.book.now) (g.met.B.Book.well c.args.book.now) c.args.self.now.list.now c.args.self.now.rounds
+    c.args.budget c.unplaced.result c.args.self.now.list.now (search rules) c.unplaced.ensures refl
 
-pub returns-in-Err : goal.returns-in-Err
-returns-in-Err g c =
-    let said = c.in-Err.ensures in
-    record {
-      life = told_no_run g.K.Kind.ops g.met.K.Kind.laws (g.B.Book.meaning c.args.book.now) (g.met.B.Book.well c.args.book.now) c.args.self.now.list.now c.args.self.now.rounds
-          c.args.budget c.in-Err.refusal c.run_within.new.list said.0 said.1 said.2;
-      refusal = (said.0, said.1, ap (λ (ds : List (Entry _)). state ds c.args.self.now.rounds) said.2);
-    }
+pub returns-clause-life : goal.returns-clause-life
+returns-clause-life g c =
+    let o = g.K.Kind.ops in
+    let m = g.B.Book.meaning c.args.book.now in
+    let es = c.args.self.now.list.now in
+    let n = c.args.self.now.rounds in
+    let done = c.advance.ensures in
+    let le : c.in-Ok.budget ≤ most_rounds = omega (arith, c.in-Ok.ensures) in
+    subst (λ (b : ℕ). Prolongs o m (run b) (progressed c.advance.result) (state es n) (state_of c.advance.new.self)) c.in-Ok.ensures.1
+    (told_run o g.met.K.Kind.laws m (g.met.B.Book.well c.args.book.now) es n c.in-Ok.budget c.advance.result c.advance.new.self.list.now c.advance.new.self.rounds le done.within done.ran done.counted)

@@ -1,25 +1,24 @@
-use Rattle.std.proofs.Common.{◌≡◌, ℕ, ◌-◌, ◌≤◌, List, length, take, sym, refl, ap, ◌∙◌, subst, arith}
-use Rattle.std.proofs.lemmas.List.{length-take-le}
+use Rattle.std.proofs.Common.{◌≡◌, ℕ, List, length, sym, refl, ap, ◌∙◌, subst₂, arith}
 use Rattle.books.specs.declared.Entry.{Entry}
 use Rattle.strategy.specs.Calls.{state, fresh, Begins}
 use Rattle.strategy.proofs.Making.{begins}
 use Rattle.strategy.proofs.Stands.{stands}
 use Rattle.solver.proofs.analysis.Analysis.set_up.Goals as goal
 
-pub returns : goal.returns
-returns g c =
+pub returns-in_default-clause-theory : goal.returns-in_default-clause-theory
+returns-in_default-clause-theory g c = stands g.K.Kind.ops g.met.K.Kind.laws
+
+pub returns-clause-starts : goal.returns-clause-starts
+returns-clause-starts g c =
     let o = g.K.Kind.ops in
     let m = g.B.Book.meaning c.args.book.now in
-    let es = c.args.list.now in
-    let n = c.count-count.result in
-    let e : n ≡ length m = c.count-count.ensures in
-    let le : n - 0 ≤ length es = omega arith in
-    let long : length (take (n - 0) es) ≡ length m = length-take-le (n - 0) es le ∙ (let z : n - 0 ≡ length m = omega arith in z) in
-    let is : c.begin.new.list ≡ fresh o (length m) = c.begin.ensures ∙ ap (λ (k : ℕ). fresh o k) long in
-    record {
-      starts = (omega arith, is, refl, subst (λ (ds : List (Entry _)). Begins o m (state ds 0)) (sym is) (begins o g.met.K.Kind.laws m (g.met.B.Book.well c.args.book.now) (length m) refl));
-      theory = stands o g.met.K.Kind.laws;
-    }
+    let long : length c.in-Some.front.now ≡ length m = omega (arith, c.in-Some.ensures.lookup.0.3, c.count.ensures) in
+    let is : c.begin.result.list.now ≡ fresh o (length m) = c.begin.ensures.fresh.0 ∙ ap (λ (k : ℕ). fresh o k) long in (
+      omega (arith, c.in-Some.ensures.lookup.0.1, c.count.ensures),
+      is,
+      c.begin.ensures.fresh.1,
+      subst₂ (λ (ds : List (Entry _)) (n : ℕ). Begins o m (state ds n)) (sym is) (sym c.begin.ensures.fresh.1) (begins o g.met.K.Kind.laws m (g.met.B.Book.well c.args.book.now) (length m) refl),
+    )
 
-pub returns-then-list-count : goal.returns-then-list-count
-returns-then-list-count g c = record { starts = (omega (arith, c.count-count.ensures), c.unplaced.ensures); theory = stands g.K.Kind.ops g.met.K.Kind.laws }
+pub returns-clause-theory : goal.returns-clause-theory
+returns-clause-theory g c = stands g.K.Kind.ops g.met.K.Kind.laws

@@ -1,8 +1,17 @@
+use Rattle.std.proofs.Common.{Ok, ap, ◌∙◌, rules}
+use Rattle.books.specs.declared.Entry.{Entry}
+use Rattle.strategy.proofs.Choosing.{value_is}
 use Rattle.solver.proofs.Told.{told_value}
 use Rattle.solver.proofs.analysis.Analysis.value.Goals as goal
 
-pub returns : goal.returns
-returns g c = record {
-  life = λ m well. told_value g.K.Kind.ops g.met.K.Kind.laws m well c.args.self.now.list.now c.args.self.now.rounds c.args.unknown c.show_value.result c.show_value.ensures;
-  answer = c.show_value.ensures;
-}
+pub returns-in_err-entry_at-clause-life : goal.returns-in_err-entry_at-clause-life
+returns-in_err-entry_at-clause-life g c m well = told_value g.K.Kind.ops g.met.K.Kind.laws m well c.args.self.now.list.now c.args.self.now.rounds c.args.unknown c.from_residual.result (search rules)
+
+pub returns-clause-life : goal.returns-clause-life
+returns-clause-life g c m well =
+    let o = g.K.Kind.ops in
+    let es = c.args.self.now.list.now in
+    let u = c.args.unknown in
+    let e = c.in_ok-entry_at.field-0 in
+    let said = c.in_ok-entry_at.ensures in
+    told_value o g.met.K.Kind.laws m well es c.args.self.now.rounds u (Ok e.value) (said.0, ap (λ (d : Entry _). d.value) said.1 ∙ value_is o es u e said.0)
