@@ -1,5 +1,4 @@
-use Rattle.std.proofs.Common.{◌≡◌, ◌<◌, ◌≤◌, [], length, get_or, refl, arith}
-use Rattle.std.proofs.lemmas.List.{take_all}
+use Rattle.std.proofs.Common.{◌≡◌, ◌<◌, [], length, get_or, arith}
 use Rattle.books.specs.Entries.{values}
 use Rattle.books.proofs.Bests.{largest_next}
 use Rattle.books.proofs.Asked.{count_is, must_find}
@@ -18,4 +17,3 @@ loop-number-preserved g c h =
           w.alternative_value.result c.loop-number.best w.better-best.result w.in-Ok.ensures (w.alternative_value.ensures (length m) h) w.better-best.ensures (c.loop-number.invariant h))
       | in_default w ↦ let r = must_find m c.args.unknown c.loop-number.number c.alternative.result c.alternative.ensures lt in absurd (w.in_default.not-Ok r.0 r.1)
     ]
-
