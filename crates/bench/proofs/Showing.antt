@@ -1,23 +1,14 @@
--- What an analysis shows of a value that is a whole number.
-use Rattle.std.proofs.Common.{◌≡◌, ℕ, ◌<◌, ◌≤◌, List, length, ℤ, Ok, Err, Result, sym, ap, ◌∙◌, arith, MatchResult}
-use lib.ListN.{length-map}
-use Rattle.std.proofs.lemmas.List.{get_or_past}
-use Rattle.refusal.specs.Reasons.{nowhere}
-use Rattle.refusal.specs.declared.Refusal.{Refusal}
-use Rattle.refusal.specs.declared.Reason.TheVariants.{NotThere}
-use Rattle.kinds.specs.Values.{bounds}
-use Rattle.kinds.specs.declared.bound.Bound.{Bound}
-use Rattle.kinds.specs.declared.bound.Bound.TheVariants.{Least, Whole}
-use Rattle.books.specs.Books.{at}
-use Rattle.books.specs.Entries.{values}
-use Rattle.books.specs.declared.Entry.{Entry}
+-- What holds of each number that is shown.
+use Rattle.std.proofs.Common.{◌≡◌, ℕ, zero, suc, ◌+◌, ◌<◌, ◌≤◌, Some, None, Option, subst, refl, arith}
+use native.Mathlib.Decide.{ℕ_discrete}
+use Rattle.std.specs.List.{All, filter_map, cons_option, range_with_len}
 
--- it is shown
-pub shown_whole : (es : List (Entry Bound)) (u : ℕ) (r : Result Bound Refusal) (a : ℤ) →
-    MatchResult r (λ v. (u < length es) × (v ≡ at bounds (values es) u)) (λ f. (length es ≤ u) × (f ≡ nowhere NotThere)) → at bounds (values es) u ≡ Whole a → r ≡ Ok (Whole a)
-shown_whole es u (Ok v) a s e = ap (λ (x : Bound). Ok x) (s.1 ∙ e)
-shown_whole es u (Err f) a s e =
-    let n : length (values es) ≤ u = simp length-map s.0 in
-    let p : Least ≡ Whole a = sym (get_or_past (values es) u Least n) ∙ e in
-    let z : ◌≡◌ {A = ℕ} 0 1 = cc in
-    absurd (omega arith)
+pub all_shown : {Y : Type 0} (h : ℕ → Option Y) (P : Y → Type 0) (n i : ℕ) → All P (filter_map h (range_with_len i n)) → (k : ℕ) → i ≤ k → k < i + n → (y : Y) → h k ≡ Some y → P y
+all_shown h P zero i all k le lt y e = absurd (omega arith)
+all_shown {Y} h P (suc n) i all k le lt y e = go (ℕ_discrete k i) (h i) refl all (λ rest ne. all_shown h P n (i + 1) rest k (omega (arith, ne)) (omega arith) y e)
+  where
+    go : Dec (k ≡ i) → (o : Option Y) → h i ≡ o → All P (cons_option o (filter_map h (range_with_len (i + 1) n))) → (All P (filter_map h (range_with_len (i + 1) n)) → (k ≡ i → ⊥) → P y) → P y
+    go (yes s) None is a f = absurd (cc)
+    go (yes s) (Some x) is a f = let same : x ≡ y = cc in subst P same (a 0 x (omega arith))
+    go (no ne) None is a f = f a ne
+    go (no ne) (Some x) is a f = f (λ j d l. a (suc j) d (omega arith)) ne

@@ -1,17 +1,15 @@
 -- What is shown of the values of an analysis.
-use Rattle.std.specs.Prelude.{◌≡◌, ℕ, ◌<◌, List, ℤ, ◌≤ℤ◌, Ok, Result}
-use Rattle.refusal.specs.declared.Refusal.{Refusal}
-use Rattle.kinds.specs.Values.{bounds}
+use Rattle.std.specs.Prelude.{◌≡◌, ℕ, ◌<◌, List, ℤ, ◌≤ℤ◌, Option}
+use Rattle.kinds.specs.Values.{bounds, whole_of}
 use Rattle.kinds.specs.declared.bound.Bound.{Bound}
 use Rattle.kinds.specs.declared.bound.Bound.TheVariants.{Whole}
 use Rattle.books.specs.Books.{at}
 use Rattle.books.specs.Entries.{values}
 use Rattle.books.specs.declared.Entry.{Entry}
 
--- b is at least as great as m, and as a value that was shown, where that is a whole number
-pub record Raised (m : ℤ) (shown : Result Bound Refusal) (b : ℤ) : Type 0 where
-  pub more : m ≤ℤ b
-  pub reached : (a : ℤ) → shown ≡ Ok (Whole a) → a ≤ℤ b
+-- the whole number that the unknown u shows, if it shows one
+abbrev pub shown_at : List (Entry Bound) → ℕ → Option ℤ
+shown_at es u = whole_of (at bounds (values es) u)
 
 -- no whole number among the first n values is greater than b
 abbrev pub Tops : List (Entry Bound) → ℕ → ℤ → Type 0

@@ -1,22 +1,19 @@
 // Solves a book of a family and a size, and prints what that came to: `bench SHAPE UNKNOWNS`. Without arguments it solves a few small ones.
 #![tactic(auto)]
 
-ghost use Rattle.std.specs.Prelude.{◌≡◌, min, vec_len, MatchResult};
+ghost use Rattle.std.specs.Prelude.{◌≡◌, min, MatchResult};
 ghost use Rattle.refusal.specs.Reasons.{no_memory};
 ghost use Rattle.kinds.specs.Limits.{most_unknowns};
-ghost use Rattle.bench.specs.Largest.{Raised, Tops};
+ghost use Rattle.bench.specs.Largest.{shown_at, Tops};
 
 use anyhow::anyhow;
 use books::{Book, Entry};
 use kinds::Bound;
 use refusal::Refusal;
 use shapes::{Shape, Shaped};
-use solver::Analysis;
+use solver::{Analysis, MOST_ROUNDS};
 use std::alloc::Global;
-use std::env;
-
-// The largest budget that a run may have: more rounds than any family takes.
-const BUDGET: usize = 65535;
+use std::{env, fmt};
 
 // What a run came to: the unknowns, the counted rounds, whether the analysis is settled, and the largest value.
 #[derive(Clone, Copy)]
@@ -27,39 +24,35 @@ struct Outcome {
     largest: i64,
 }
 
-// The greater of a number and a value that was shown, where that is a whole number.
-fn raised(most: i64, shown: Result<Bound, Refusal>) -> i64
-    ensures { Raised most shown result }
-{
-    match shown {
-        Ok(Bound::Whole(a)) => most.max(a),
-        _ => most,
+impl fmt::Display for Outcome {
+    fn fmt<W: fmt::Write>(&self, f: &mut fmt::Formatter<W>) -> fmt::Result {
+        let state = if self.settled {
+            "settled"
+        } else {
+            "not settled"
+        };
+        write!(
+            f,
+            "{} unknowns, {} rounds, {state}, largest {}",
+            self.unknowns, self.rounds, self.largest
+        )
     }
+}
+
+// The whole number that an unknown shows, if it shows one.
+fn whole_at(analysis: &Analysis<Bound>, unknown: usize) -> Option<i64>
+    ensures { result ≡ shown_at analysis.now.list.now unknown }
+{
+    analysis.value(unknown).ok()?.whole()
 }
 
 // The largest whole number among the first values, 0 if none is greater.
 fn largest(analysis: &Analysis<Bound>, count: usize) -> i64
     ensures { Tops analysis.now.list.now count result }
 {
-    let mut most = 0;
-    for unknown in 0..count {
-        most = raised(most, analysis.value(unknown));
-    }
-    most
-}
-
-// A list for an analysis of so many unknowns.
-fn blank(heap: Global, count: usize) -> Result<Vec<Entry<Bound>>, Refusal>
-    ensures { MatchResult result (λ list. vec_len list ≡ count) (λ e. e ≡ no_memory) }
-{
-    let mut list = Vec::new(heap);
-    for _unknown in 0..count {
-        list.push(Entry {
-            value: Bound::Least,
-            choice: None,
-        })?;
-    }
-    Ok(list)
+    (0..count)
+        .filter_map(|unknown| whole_at(analysis, unknown))
+        .fold(0, |most, number| most.max(number))
 }
 
 // Solves the book of a family that has so many unknowns.
@@ -68,9 +61,13 @@ fn solve(heap: Global, shape: Shape, size: usize) -> Result<Outcome, Refusal>
 {
     let book = Shaped::new(shape, size);
     let unknowns = book.count();
-    let mut list = blank(heap, unknowns)?;
+    let entry = Entry {
+        value: Bound::Least,
+        choice: None,
+    };
+    let mut list = vec![in heap; entry; unknowns]?;
     let mut analysis = Analysis::set_up(&book, list.as_mut_slice())?;
-    let progress = analysis.run(&book, BUDGET)?;
+    let progress = analysis.run(&book, MOST_ROUNDS)?;
     Ok(Outcome {
         unknowns,
         rounds: progress.rounds,
@@ -98,15 +95,7 @@ fn measure(rt: &HostRuntime, name: &str, size: usize) -> anyhow::Result<()> {
     let Ok(outcome) = solve(rt.alloc(), shape, size) else {
         return Err(anyhow!("no memory"));
     };
-    let unknowns = outcome.unknowns;
-    let rounds = outcome.rounds;
-    let state = if outcome.settled {
-        "settled"
-    } else {
-        "not settled"
-    };
-    let largest = outcome.largest;
-    println!(rt; "{name}: {unknowns} unknowns, {rounds} rounds, {state}, largest {largest}")?;
+    println!(rt; "{name}: {outcome}")?;
     Ok(())
 }
 

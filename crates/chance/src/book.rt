@@ -1,14 +1,15 @@
 // Drawn books.
-ghost use Rattle.std.specs.Prelude.{◌≡◌, ◌≤◌, min, if◌then◌else◌, Ok, Err, nat_lt};
+ghost use Rattle.std.specs.Prelude.{◌≡◌, ◌<◌, ◌≤◌, min, MatchResult};
 ghost use Rattle.refusal.specs.Reasons.{nowhere};
 ghost use Rattle.refusal.specs.declared.Reason.TheVariants.{NotThere};
 ghost use Rattle.books.specs.Questions.{alternative as alternative_of};
+ghost use Rattle.chance.specs.Spots.{place_of};
 ghost use Rattle.chance.specs.Draws.{drawn_count, drawn_book};
 ghost use Rattle.chance.specs.Drawing.{drawn_well};
 
 use crate::makers::Drawn;
 use crate::sites::Site;
-use crate::spots::{Purpose, Spot};
+use crate::spots::Spot;
 use books::{Alternative, Book};
 use refusal::{Reason, Refusal};
 
@@ -34,19 +35,28 @@ impl Chance {
         }
     }
 
-    // How many alternatives an unknown has, if it is there.
-    fn width(self, unknown: usize) -> Result<usize, Refusal>
-        ensures { result ≡ (if nat_lt unknown self.count then Ok (drawn_count self.seed unknown) else Err (nowhere NotThere)) }
+    // The place of an alternative of an unknown, if the unknown is there.
+    fn site(self, unknown: usize, number: u32) -> Result<Site, Refusal>
+        ensures { MatchResult result (λ s. (unknown < self.count) × (s.spot ≡ place_of self.seed unknown number) × (s.count ≡ self.count)) (λ e. (self.count ≤ unknown) × (e ≡ nowhere NotThere)) }
     {
         if unknown >= self.count {
             return Err(Refusal::unplaced(Reason::NotThere));
         }
-        let spot = Spot::new(self.seed, unknown as u32, 0);
-        Ok((spot.draw(Purpose::Alternatives) % 5) as usize)
+        Ok(Site {
+            spot: Spot::new(self.seed, unknown as u32, number),
+            count: self.count,
+        })
+    }
+
+    // How many alternatives an unknown has, if it is there.
+    fn width(self, unknown: usize) -> Result<usize, Refusal>
+        ensures { MatchResult result (λ k. (unknown < self.count) × (k ≡ drawn_count self.seed unknown)) (λ e. (self.count ≤ unknown) × (e ≡ nowhere NotThere)) }
+    {
+        Ok(self.site(unknown, 0)?.width())
     }
 
     // An alternative of an unknown, if both are there.
-    #[tactic(auto, using(crate::specs::Drawing::answered, crate::specs::Drawing::refused, crate::specs::Drawing::asked_over, crate::specs::Drawing::asked_nowhere))]
+    #[tactic(auto, using(crate::specs::Drawing::asked_there, crate::specs::Drawing::asked_over, crate::specs::Drawing::asked_nowhere))]
     fn pick<K: Drawn>(
         self,
         unknown: usize,
@@ -57,11 +67,7 @@ impl Chance {
         if number >= self.width(unknown)? {
             return Err(Refusal::unplaced(Reason::NotThere));
         }
-        let site = Site {
-            spot: Spot::new(self.seed, unknown as u32, number as u32),
-            count: self.count,
-        };
-        Ok(site.alternative())
+        Ok(self.site(unknown, number as u32)?.alternative())
     }
 }
 
@@ -77,7 +83,7 @@ impl<K: Drawn> Book<K> for Chance {
     }
 
     // Up to 4.
-    #[tactic(auto, using(crate::specs::Drawing::counted_drawn))]
+    #[tactic(auto, using(crate::specs::Drawing::counted_there, crate::specs::Drawing::counted_nowhere))]
     fn alternatives(&self, unknown: usize) -> Result<usize, Refusal> {
         self.width(unknown)
     }

@@ -1,6 +1,7 @@
 // The parts of a drawn alternative.
 ghost use Rattle.std.specs.Prelude.{◌≡◌, ◌<◌, ◌%◌};
 ghost use Rattle.chance.specs.Spots.{drawn, at_part};
+ghost use Rattle.chance.specs.declared.spots.Purpose.TheVariants.{Alternatives};
 ghost use Rattle.chance.specs.Draws.{drawn_test, drawn_term, drawn_terms, drawn_alternative};
 
 use crate::makers::Drawn;
@@ -24,6 +25,13 @@ impl Site {
             spot: self.spot.at(part),
             count: self.count,
         }
+    }
+
+    // How many alternatives the unknown of this place has.
+    pub(crate) fn width(self) -> usize
+        ensures { result ≡ drawn self.spot Alternatives % 5 }
+    {
+        (self.spot.draw(Purpose::Alternatives) % 5) as usize
     }
 
     // An unknown of the book, drawn for a purpose.

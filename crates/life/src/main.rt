@@ -1,14 +1,11 @@
 // Lives of analyses of the worked systems, call by call: each call with what it answered.
 #![tactic(auto)]
 
-ghost use Rattle.std.specs.Prelude.{◌≡◌, IfOk, vec_len};
-
 use books::{Book, Entry};
-use kinds::{Bound, Grade, Kind};
+use kinds::{Bound, Kind};
 use refusal::Refusal;
 use solver::{Analysis, Answer, Call, Progress, make_calls};
-use std::alloc::{AllocError, Global};
-use std::io;
+use std::{fmt, io};
 use worked::{CopiedGrade, System};
 
 // The calls that every system gets: questions and refused ones before, between and behind the rounds.
@@ -31,106 +28,85 @@ const CALLS: [Call; 16] = [
     Call::Run(1),
 ];
 
-// A value that can be printed.
-trait Shown {
-    fn show(self, rt: &HostRuntime) -> io::Result<()>;
-}
+// A call, as it is printed.
+#[derive(Clone, Copy)]
+struct Asked(Call);
 
-impl Shown for Bound {
-    fn show(self, rt: &HostRuntime) -> io::Result<()> {
-        match self {
-            Bound::Least => println!(rt; "-inf"),
-            Bound::Whole(number) => println!(rt; "{number}"),
-            Bound::Greatest => println!(rt; "+inf"),
+impl fmt::Display for Asked {
+    fn fmt<W: fmt::Write>(&self, f: &mut fmt::Formatter<W>) -> fmt::Result {
+        match self.0 {
+            Call::Round => write!(f, "round"),
+            Call::Run(budget) => write!(f, "run of {budget}"),
+            Call::Restart => write!(f, "restart"),
+            Call::Value(unknown) => write!(f, "value of u{unknown}"),
+            Call::Choice(unknown) => write!(f, "choice of u{unknown}"),
+            Call::Rounds => write!(f, "rounds"),
         }
     }
 }
 
-impl Shown for Grade {
-    fn show(self, rt: &HostRuntime) -> io::Result<()> {
-        let rank = self.rank();
-        println!(rt; "grade {rank}")
+// What a round or a run came to, as it is printed.
+#[derive(Clone, Copy)]
+struct Reached(Progress);
+
+impl fmt::Display for Reached {
+    fn fmt<W: fmt::Write>(&self, f: &mut fmt::Formatter<W>) -> fmt::Result {
+        let state = if self.0.settled {
+            "settled"
+        } else {
+            "not settled"
+        };
+        write!(f, "{} counted, {state}", self.0.rounds)
     }
 }
 
-// Prints the call, and leaves the line open for its answer.
-fn show_call(rt: &HostRuntime, call: Call) -> io::Result<()> {
-    match call {
-        Call::Round => print!(rt; "  round: "),
-        Call::Run(budget) => print!(rt; "  run of {budget}: "),
-        Call::Restart => print!(rt; "  restart: "),
-        Call::Value(unknown) => print!(rt; "  value of u{unknown}: "),
-        Call::Choice(unknown) => print!(rt; "  choice of u{unknown}: "),
-        Call::Rounds => print!(rt; "  rounds: "),
+// A refusal, as it is printed: its layer and its number.
+#[derive(Clone, Copy)]
+struct Refused(Refusal);
+
+impl fmt::Display for Refused {
+    fn fmt<W: fmt::Write>(&self, f: &mut fmt::Formatter<W>) -> fmt::Result {
+        let reason = self.0.reason;
+        write!(f, "refused {} {}", reason.layer(), reason.number())
     }
 }
 
-// Prints what a round or a run came to.
-fn show_progress(rt: &HostRuntime, progress: Progress) -> io::Result<()> {
-    let rounds = progress.rounds;
-    if progress.settled {
-        println!(rt; "{rounds} counted, settled")
-    } else {
-        println!(rt; "{rounds} counted, not settled")
-    }
-}
+// An answer, as it is printed.
+#[derive(Clone, Copy)]
+struct Answered<K>(Result<Answer<K>, Refusal>);
 
-// Prints a choice.
-fn show_choice(rt: &HostRuntime, choice: Option<usize>) -> io::Result<()> {
-    match choice {
-        Some(number) => println!(rt; "alternative {number}"),
-        None => println!(rt; "none"),
+impl<K: Kind + fmt::Display> fmt::Display for Answered<K> {
+    fn fmt<W: fmt::Write>(&self, f: &mut fmt::Formatter<W>) -> fmt::Result {
+        match self.0 {
+            Ok(Answer::Made(progress)) => write!(f, "{}", Reached(progress)),
+            Ok(Answer::Done) => write!(f, "done"),
+            Ok(Answer::Shown(value)) => write!(f, "{value}"),
+            Ok(Answer::Chosen(Some(number))) => write!(f, "alternative {number}"),
+            Ok(Answer::Chosen(None)) => write!(f, "none"),
+            Ok(Answer::Counted(rounds)) => write!(f, "{rounds}"),
+            Err(refusal) => write!(f, "{}", Refused(refusal)),
+        }
     }
-}
-
-// Prints the layer and the number of a refusal.
-fn show_refusal(rt: &HostRuntime, refusal: Refusal) -> io::Result<()> {
-    let layer = refusal.reason.layer().text();
-    let number = refusal.reason.number();
-    println!(rt; "refused {layer} {number}")
-}
-
-// Prints an answer.
-fn show_answer<K: Kind + Shown>(rt: &HostRuntime, answer: Answer<K>) -> io::Result<()> {
-    match answer {
-        Answer::Made(progress) => show_progress(rt, progress),
-        Answer::Done => println!(rt; "done"),
-        Answer::Shown(value) => value.show(rt),
-        Answer::Chosen(choice) => show_choice(rt, choice),
-        Answer::Counted(rounds) => println!(rt; "{rounds}"),
-        Answer::Refused(refusal) => show_refusal(rt, refusal),
-    }
-}
-
-// That many copies of a value.
-fn filled<T: Copy>(heap: Global, value: T, count: usize) -> Result<Vec<T>, AllocError>
-    ensures { IfOk result (λ v. vec_len v ≡ count) }
-{
-    let mut copies = Vec::new(heap);
-    for _copy in 0..count {
-        copies.push(value)?;
-    }
-    Ok(copies)
 }
 
 // Makes all the calls of the list on a book and prints them with their answers.
-fn live<K: Kind + Shown, B: Book<K>>(rt: &HostRuntime, name: &str, book: &B) -> io::Result<()> {
+fn live<K: Kind + fmt::Display, B: Book<K>>(
+    rt: &HostRuntime,
+    name: &str,
+    book: &B,
+) -> io::Result<()> {
     println!(rt; "{name}")?;
-    let mut list = filled(
-        rt.alloc(),
-        Entry {
-            value: K::greatest(),
-            choice: None,
-        },
-        2,
-    )?;
-    let mut answers = filled(rt.alloc(), Answer::Done, CALLS.len())?;
+    let entry = Entry {
+        value: K::greatest(),
+        choice: None,
+    };
+    let mut list = vec![in rt.alloc(); entry; 2]?;
+    let mut answers = vec![in rt.alloc(); Ok(Answer::Done); CALLS.len()]?;
     if let Err(refusal) = make_calls(book, list.as_mut_slice(), &CALLS, answers.as_mut_slice()) {
-        return show_refusal(rt, refusal);
+        return println!(rt; "{}", Refused(refusal));
     }
-    for (call, answer) in CALLS.iter().zip(answers.iter()) {
-        show_call(rt, *call)?;
-        show_answer(rt, *answer)?;
+    for (call, answer) in CALLS.iter().zip(&answers) {
+        println!(rt; "  {}: {}", Asked(*call), Answered(*answer))?;
     }
     Ok(())
 }
@@ -138,30 +114,21 @@ fn live<K: Kind + Shown, B: Book<K>>(rt: &HostRuntime, name: &str, book: &B) -> 
 // Sets an analysis up in a list of that many entries and holds it over several calls.
 fn hold(rt: &HostRuntime, entries: usize) -> io::Result<()> {
     println!(rt; "u0 = max(0, u1), u1 = u0, in a list of {entries}")?;
-    let mut list = filled(
-        rt.alloc(),
-        Entry {
-            value: Bound::Greatest,
-            choice: None,
-        },
-        entries,
-    )?;
+    let entry = Entry {
+        value: Bound::Greatest,
+        choice: None,
+    };
+    let mut list = vec![in rt.alloc(); entry; entries]?;
     let mut analysis = match Analysis::set_up(&System::Copying, list.as_mut_slice()) {
         Ok(analysis) => analysis,
-        Err(refusal) => {
-            print!(rt; "  set-up: ")?;
-            return show_refusal(rt, refusal);
-        }
+        Err(refusal) => return println!(rt; "  set-up: {}", Refused(refusal)),
     };
-    print!(rt; "  round: ")?;
-    show_progress(rt, analysis.round(&System::Copying))?;
-    print!(rt; "  run of 5: ")?;
+    println!(rt; "  round: {}", Reached(analysis.round(&System::Copying)))?;
     match analysis.run(&System::Copying, 5) {
-        Ok(progress) => show_progress(rt, progress)?,
-        Err(refusal) => show_refusal(rt, refusal)?,
+        Ok(progress) => println!(rt; "  run of 5: {}", Reached(progress))?,
+        Err(refusal) => println!(rt; "  run of 5: {}", Refused(refusal))?,
     }
-    let rounds = analysis.rounds();
-    println!(rt; "  rounds: {rounds}")
+    println!(rt; "  rounds: {}", analysis.rounds())
 }
 
 // The six systems of bounds, the one of grades, and an analysis that is held.

@@ -1,5 +1,5 @@
 -- the answers of calls that may refuse, in the lives of an analysis
-use Rattle.std.proofs.Common.{◌≡◌, ℕ, ◌+◌, ◌<◌, ◌≤◌, min, List, Ok, Err, Option, Result, sym, subst}
+use Rattle.std.proofs.Common.{◌≡◌, ℕ, ◌+◌, ◌<◌, ◌≤◌, min, List, length, get_or, Ok, Err, Option, Result, sym, ap, ◌∙◌, subst}
 use Rattle.kinds.specs.Limits.{most_rounds}
 use Rattle.kinds.specs.Kinds.{Ops, Laws}
 use Rattle.refusal.specs.Reasons.{number_of, nowhere}
@@ -14,6 +14,8 @@ use Rattle.strategy.specs.Lives.{State, Call}
 use Rattle.strategy.specs.Lives.Call.{run, value_of, choice_of}
 use Rattle.strategy.specs.Lives.Answer.{value, choice, refused}
 use Rattle.strategy.specs.Calls.{state, Shows, ShowsChoice, Prolongs}
+use Rattle.strategy.proofs.Choosing.{value_is}
+use Rattle.strategy.proofs.Paths.{choice_is}
 use Rattle.strategy.proofs.Making.{shows_value, refuses_value, shows_choice, refuses_choice, makes_run, refuses_run}
 use Rattle.solver.specs.Answers.{progressed, answered}
 use Rattle.solver.specs.declared.rounds.Progress.{Progress}
@@ -27,9 +29,15 @@ module _ {V W : Type 0} (o : Ops V W) (l : Laws o) (m : List (List (Alternative 
   told_value u (Ok v) p = shows_value o l m well es n u v p.0 p.1
   told_value u (Err e) p = refusal_is (value_of u) (state es n) (state es n) e NotThere p.1 (refuses_value o l m well es n u p.0)
 
+  pub value_of_entry : (u : ℕ) (e : Entry V) → (u < length es) × (e ≡ get_or es u e) → Prolongs o m (value_of u) (value e.value) (state es n) (state es n)
+  value_of_entry u e said = shows_value o l m well es n u e.value said.0 (ap (λ (d : Entry V). d.value) said.1 ∙ value_is o es u e said.0)
+
   pub told_choice : (u : ℕ) (r : Result (Option ℕ) Refusal) → ShowsChoice es u r → Prolongs o m (choice_of u) (answered choice r) (state es n) (state es n)
   told_choice u (Ok k) p = shows_choice o l m well es n u k p.0 p.1
   told_choice u (Err e) p = refusal_is (choice_of u) (state es n) (state es n) e NotThere p.1 (refuses_choice o l m well es n u p.0)
+
+  pub choice_of_entry : (u : ℕ) (e : Entry V) → (u < length es) × (e ≡ get_or es u e) → Prolongs o m (choice_of u) (choice e.choice) (state es n) (state es n)
+  choice_of_entry u e said = shows_choice o l m well es n u e.choice said.0 (ap (λ (d : Entry V). d.choice) said.1 ∙ choice_is es u e said.0)
 
   pub told_run : (b : ℕ) (p : Progress) (es' : List (Entry V)) (n' : ℕ) → b ≤ most_rounds → p.rounds ≤ b → (Ready o m es → Ran o m b es p.rounds p.settled es') → n' ≡ min (n + p.rounds) most_rounds →
       Prolongs o m (run b) (progressed p) (state es n) (state es' n')

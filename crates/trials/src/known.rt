@@ -8,7 +8,7 @@ use solver::Analysis;
 use std::alloc::Global;
 use worked::{CopiedGrade, Depth, SinkingBook, System};
 
-// The rounds of one run from set-up, if it settles, of a book of one or two unknowns or none.
+// The rounds of one run from set-up, if it settles, of a book of up to two unknowns.
 fn rounds<K: Kind, B: Book<K>>(heap: Global, book: &B) -> Result<Option<u16>, Refusal> {
     let mut list = blank(heap, 2)?;
     let mut analysis = Analysis::set_up(book, list.as_mut_slice())?;

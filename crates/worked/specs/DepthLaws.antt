@@ -1,7 +1,7 @@
 -- The laws of depths, and the system over them.
-use Rattle.std.specs.Prelude.{◌≡◌, ℕ, ◌+◌, Bool, true, false, not, ◌&&◌, ◌||◌, ◌⊎◌, ℤ, pos, negsuc, int_le, nat_le, refl}
-use Rattle.std.proofs.Common.{sym, ap, ◌∙◌, inl, inr, true≢false, add-zero, add_comm, add_assoc, arith}
-use Rattle.std.proofs.lemmas.Bool.{false≢true}
+use Rattle.std.specs.Prelude.{◌≡◌, ℕ, ◌+◌, Bool, true, false, ◌&&◌, ◌||◌, ◌⊎◌, ℤ, pos, negsuc, int_le, nat_le, refl}
+use Rattle.std.proofs.Common.{sym, ap, ◌∙◌, inl, inr, ⊎_elim, true≢false, add-zero, add_comm, add_assoc, arith}
+use Rattle.std.proofs.lemmas.Bool.{and_parts, and_from, and_right, or_cases, or_left, or_right, not-true, not_from_false, false_from_ne_true, both_ways}
 use Rattle.std.proofs.lemmas.Bool.Decides.{nat_tests, leb_tells}
 use Rattle.kinds.specs.Kinds.{Laws, Proper}
 use Rattle.kinds.specs.declared.bound.Bound.{Bound}
@@ -11,7 +11,6 @@ use Rattle.worked.specs.Systems.{ComesTo}
 use Rattle.worked.specs.Sinking.{bound_of, depth_under, fallen, sunk, above, one_reaches, depths, sinking_depths, resting_depths}
 use Rattle.worked.specs.declared.sinking.Depth.{Depth}
 use Rattle.worked.specs.declared.sinking.Depth.TheVariants.{Least, Whole, Greatest}
-use Rattle.worked.specs.Tests.{and_both}
 use Rattle.worked.specs.Play.{comes_to}
 
 -- a bound read as a depth
@@ -78,32 +77,19 @@ never_rises (Whole (negsuc n)) w = grind (arith, nat_tests)
 never_rises Greatest w = refl
 
 -- the joint test rises with both depths
-not_more : (a b : Bool) → (b ≡ true → a ≡ true) → not a ≡ true → not b ≡ true
-not_more a true h e = absurd (false≢true (sym (ap not (h refl)) ∙ e))
-not_more a false h e = refl
-
 or_more : (a b c d : Bool) → (a ≡ true → c ≡ true) → (b ≡ true → d ≡ true) → a || b ≡ true → c || d ≡ true
-or_more a b true d f g e = refl
-or_more true b false d f g e = absurd (false≢true (f refl))
-or_more false b false d f g e = g e
-
-and_make : (a b : Bool) → a ≡ true → b ≡ true → a && b ≡ true
-and_make a b p q = ap (λ (c : Bool). c && b) p ∙ q
+or_more a b c d f g e = ⊎_elim (λ h. or_left c d (f h)) (λ h. or_right c d (g h)) (or_cases a b e)
 
 above_more : (x y : Depth) → depth_under x y ≡ true → above x ≡ true → above y ≡ true
-above_more x y p = not_more (depth_under x Least) (depth_under y Least) (transitive x y Least p)
+above_more x y p e = not_from_false (depth_under y Least) (false_from_ne_true _ (λ h. both_ways (depth_under x Least) (not-true _ e) (transitive x y Least p h)))
 
 both_more : (x y x' y' t : Depth) → depth_under x x' ≡ true → depth_under y y' ≡ true → one_reaches x y t ≡ true → one_reaches x' y' t ≡ true
 both_more x y x' y' t p q e =
-    let r = and_both (above x) (above y && (depth_under t x || depth_under t y)) e in
-    let s = and_both (above y) (depth_under t x || depth_under t y) r.1 in
-    and_make (above x') (above y' && (depth_under t x' || depth_under t y')) (above_more x x' p r.0)
-    (and_make (above y') (depth_under t x' || depth_under t y') (above_more y y' q s.0)
+    let r = and_parts (above x) (above y && (depth_under t x || depth_under t y)) e in
+    let s = and_parts (above y) (depth_under t x || depth_under t y) r.1 in
+    and_from (above x') (above y' && (depth_under t x' || depth_under t y')) (above_more x x' p r.0)
+    (and_from (above y') (depth_under t x' || depth_under t y') (above_more y y' q s.0)
     (or_more (depth_under t x) (depth_under t y) (depth_under t x') (depth_under t y') (λ h. transitive t x x' h p) (λ h. transitive t y y' h q) s.1))
-
-and_false : (b : Bool) → b && false ≡ false
-and_false true = refl
-and_false false = refl
 
 pub depths_laws : Laws depths
 depths_laws = record {
@@ -128,7 +114,7 @@ depths_laws = record {
   shift_strict = λ x y w s. strict x y w;
   raises = λ x w s p. (λ e. absurd (true≢false (sym (never_rises x w) ∙ e)), λ e. absurd (true≢false (sym (never_more w) ∙ e)));
   joint_rises = both_more;
-  joint_least = λ x t. (refl, and_false (above x));
+  joint_least = λ x t. (refl, and_right (above x) false refl);
 }
 
 pub depths_rest : ComesTo depths sinking_depths 3 resting_depths

@@ -1,7 +1,7 @@
 -- Rounds played by computation.
 use Rattle.std.specs.Prelude.{◌≡◌, ℕ, zero, suc, ◌<◌, Bool, true, false, cond, ◌&&◌, List, [], ◌∷◌, length, Option, refl}
 use Rattle.std.proofs.Common.{sym, ap, subst, arith, not-suc-le-zero}
-use Rattle.std.proofs.lemmas.Bool.{false≢true}
+use Rattle.std.proofs.lemmas.Bool.{false≢true, and_parts}
 use Rattle.std.proofs.Math.Decide.{ℕ_discrete}
 use Rattle.kinds.specs.Kinds.{Ops, Laws}
 use Rattle.books.specs.Books.{at, right}
@@ -16,7 +16,7 @@ use Rattle.strategy.proofs.Theory.{start_stage}
 use Rattle.strategy.proofs.Chains.{rounds_stage, rest_is_least}
 use Rattle.strategy.proofs.Ends.{after_values}
 use Rattle.worked.specs.Systems.{ComesTo}
-use Rattle.worked.specs.Tests.{and_both, book_fits, well}
+use Rattle.worked.specs.Tests.{book_fits, well}
 
 -- f holds of each number below k
 abbrev all : (ℕ → Bool) → ℕ → Bool
@@ -25,10 +25,10 @@ all f (suc k) = f k && all f k
 
 all_out : (f : ℕ → Bool) (k : ℕ) → all f k ≡ true → (v : ℕ) → v < k → f v ≡ true
 all_out f zero e v h = absurd (not-suc-le-zero h)
-all_out f (suc k) e v h = go (ℕ_discrete v k) (λ q. all_out f k (and_both (f k) (all f k) e).1 v q)
+all_out f (suc k) e v h = go (ℕ_discrete v k) (λ q. all_out f k (and_parts (f k) (all f k) e).1 v q)
   where
     go : Dec (v ≡ k) → (v < k → f v ≡ true) → f v ≡ true
-    go (yes q) ih = subst (λ (j : ℕ). f j ≡ true) (sym q) (and_both (f k) (all f k) e).0
+    go (yes q) ih = subst (λ (j : ℕ). f j ≡ true) (sym q) (and_parts (f k) (all f k) e).0
     go (no q) ih = ih (omega arith)
 
 -- f fails of some number below k
@@ -83,10 +83,10 @@ module _ {V W : Type 0} (o : Ops V W) (l : Laws o) (m : List (List (Alternative 
   module _ (w : Well o m) where
     played : (k : ℕ) → all moves k ≡ true → FromNone (pasts k) (play k).s (play k).x
     played zero e = start
-    played (suc k) e = go (played k (and_both (moves k) (all moves k) e).1)
+    played (suc k) e = go (played k (and_parts (moves k) (all moves k) e).1)
       where
         go : FromNone (pasts k) (play k).s (play k).x → FromNone (pasts (suc k)) (play (suc k)).s (play (suc k)).x
-        go r = round r (some_not_out (rests (play k).x) (length m) (and_both (moves k) (all moves k) e).0)
+        go r = round r (some_not_out (rests (play k).x) (length m) (and_parts (moves k) (all moves k) e).0)
             (after_values o l m w (play k).s (play k).x (rounds_stage o l m w (none_chosen (length m)) (all_least o (length m)) (start_stage o l m w) r))
 
   -- a book that passes the tests comes to rest at x: each of k rounds moves, and none does at x

@@ -1,7 +1,7 @@
 -- That a book is well formed, as a test that computes.
-use Rattle.std.specs.Prelude.{◌≡◌, ℕ, zero, suc, Bool, true, false, not, ◌&&◌, List, [], ◌∷◌, length, Some, nat_le, nat_lt, slice_index_or, refl}
+use Rattle.std.specs.Prelude.{◌≡◌, ℕ, zero, suc, Bool, true, not, ◌&&◌, List, [], ◌∷◌, length, Some, nat_le, nat_lt, slice_index_or, refl}
 use Rattle.std.proofs.Common.{subst, leb-true, ltb-true}
-use Rattle.std.proofs.lemmas.Bool.{false≢true}
+use Rattle.std.proofs.lemmas.Bool.{and_parts, not-true}
 use Rattle.kinds.specs.Limits.{most_unknowns, most_alternatives}
 use Rattle.kinds.specs.Kinds.{Ops, Laws}
 use Rattle.books.specs.Books.{nth}
@@ -18,14 +18,6 @@ use Rattle.books.proofs.Order.{not_least}
 use Rattle.books.proofs.Worth.{no_option}
 use Rattle.books.proofs.Asked.{some_same}
 
-pub and_both : (a b : Bool) → a && b ≡ true → (a ≡ true) × (b ≡ true)
-and_both true b e = (refl, e)
-and_both false b e = absurd (false≢true e)
-
-not_true : (b : Bool) → not b ≡ true → b ≡ false
-not_true true e = absurd (false≢true e)
-not_true false e = refl
-
 -- f holds of each item
 abbrev each : {A : Type 0} → (A → Bool) → List A → Bool
 each f [] = true
@@ -33,13 +25,13 @@ each f (a ∷ l) = f a && each f l
 
 each_nth : {A : Type 0} (f : A → Bool) (l : List A) (k : ℕ) (a : A) → each f l ≡ true → nth l k ≡ Some a → f a ≡ true
 each_nth f [] k a h e = absurd (no_option e)
-each_nth f (b ∷ l) zero a h e = subst (λ (c : _). f c ≡ true) (some_same e) (and_both (f b) (each f l) h).0
-each_nth f (b ∷ l) (suc k) a h e = each_nth f l k a (and_both (f b) (each f l) h).1 e
+each_nth f (b ∷ l) zero a h e = subst (λ (c : _). f c ≡ true) (some_same e) (and_parts (f b) (each f l) h).0
+each_nth f (b ∷ l) (suc k) a h e = each_nth f l k a (and_parts (f b) (each f l) h).1 e
 
 each_get_or : {A : Type 0} (f : List A → Bool) (m : List (List A)) (u : ℕ) → f [] ≡ true → each f m ≡ true → f (slice_index_or m u []) ≡ true
 each_get_or f [] u n h = n
-each_get_or f (l ∷ m) zero n h = (and_both (f l) (each f m) h).0
-each_get_or f (l ∷ m) (suc u) n h = each_get_or f m u n (and_both (f l) (each f m) h).1
+each_get_or f (l ∷ m) zero n h = (and_parts (f l) (each f m) h).0
+each_get_or f (l ∷ m) (suc u) n h = each_get_or f m u n (and_parts (f l) (each f m) h).1
 
 module _ {V W : Type 0} (o : Ops V W) (l : Laws o) where
   -- the tests: of a threshold, a test, a term, the terms, an alternative, a right side and a book
@@ -71,36 +63,36 @@ module _ {V W : Type 0} (o : Ops V W) (l : Laws o) where
   -- what passes them is well formed
   threshold_well : (c : V) → threshold_fits c ≡ true → Threshold o c
   threshold_well c e =
-      let p = and_both (o.sized c) (not (o.at_most c o.least)) e in
-      (p.0, not_least o l (not_true (o.at_most c o.least) p.1))
+      let p = and_parts (o.sized c) (not (o.at_most c o.least)) e in
+      (p.0, not_least o l (not-true (o.at_most c o.least) p.1))
 
   test_well : (n : ℕ) (t : Test V) → test_fits n t ≡ true → WellTest o n t
   test_well n Always e = tt
   test_well n (Single u t) e =
-      let p = and_both (nat_lt u n) (threshold_fits t) e in (ltb-true u n p.0, threshold_well t p.1)
+      let p = and_parts (nat_lt u n) (threshold_fits t) e in (ltb-true u n p.0, threshold_well t p.1)
   test_well n (Joint u v t) e =
-      let p = and_both (nat_lt u n) (nat_lt v n && threshold_fits t) e in
-      let q = and_both (nat_lt v n) (threshold_fits t) p.1 in
+      let p = and_parts (nat_lt u n) (nat_lt v n && threshold_fits t) e in
+      let q = and_parts (nat_lt v n) (threshold_fits t) p.1 in
       (ltb-true u n p.0, ltb-true v n q.0, threshold_well t q.1)
 
   term_well : (n : ℕ) (t : Term V W) → term_fits n t ≡ true → WellTerm o n t
   term_well n (Constant c) e = threshold_well c e
-  term_well n (Shifted v w) e = let p = and_both (nat_lt v n) (o.light w) e in (ltb-true v n p.0, p.1)
+  term_well n (Shifted v w) e = let p = and_parts (nat_lt v n) (o.light w) e in (ltb-true v n p.0, p.1)
 
   terms_well : (n : ℕ) (t : Term V W) {ts : Terms V W} → Among t ts → terms_fit n ts ≡ true → WellTerm o n t
   terms_well n t only e = term_well n t e
-  terms_well n t (first {s = s}) e = term_well n t (and_both (term_fits n t) (term_fits n s) e).0
-  terms_well n t (second {s = s}) e = term_well n t (and_both (term_fits n s) (term_fits n t) e).1
+  terms_well n t (first {s = s}) e = term_well n t (and_parts (term_fits n t) (term_fits n s) e).0
+  terms_well n t (second {s = s}) e = term_well n t (and_parts (term_fits n s) (term_fits n t) e).1
 
   pub well : (m : List (List (Alternative V W))) → book_fits m ≡ true → Well o m
   well m e =
-      let p = and_both (nat_le (length m) most_unknowns) (each (right_fits (length m)) m) e in
+      let p = and_parts (nat_le (length m) most_unknowns) (each (right_fits (length m)) m) e in
       let r : (u : ℕ) → right_fits (length m) (slice_index_or m u []) ≡ true = λ u. each_get_or (right_fits (length m)) m u refl p.1 in
-      let b = λ (u : ℕ). and_both (nat_le (length (slice_index_or m u [])) most_alternatives) (each (alternative_fits (length m)) (slice_index_or m u [])) (r u) in
+      let b = λ (u : ℕ). and_parts (nat_le (length (slice_index_or m u [])) most_alternatives) (each (alternative_fits (length m)) (slice_index_or m u [])) (r u) in
       record {
         small = leb-true (length m) most_unknowns p.0;
         few = λ u. leb-true (length (slice_index_or m u [])) most_alternatives (b u).0;
         fine = λ u k a i.
-            let f = and_both (test_fits (length m) a.test) (terms_fit (length m) a.terms) (each_nth (alternative_fits (length m)) (slice_index_or m u []) k a (b u).1 i) in
+            let f = and_parts (test_fits (length m) a.test) (terms_fit (length m) a.terms) (each_nth (alternative_fits (length m)) (slice_index_or m u []) k a (b u).1 i) in
             record { test = test_well (length m) a.test f.0; each = λ t i. terms_well (length m) t i f.1 };
       }

@@ -1,5 +1,5 @@
-use Rattle.std.proofs.Common.{◌≡◌, ℕ, ◌+◌, ◌<◌, List, [], length, take, drop, sym, refl, ap, ◌∙◌, subst, subst₂, arith, rules}
-use Rattle.std.proofs.lemmas.List.{take_all, drop-set-lt, drop-drop}
+use Rattle.std.proofs.Common.{ℕ, ◌+◌, ◌<◌, List, [], length, take, drop, sym, refl, ap, ◌∙◌, subst, subst₂, arith}
+use Rattle.std.proofs.lemmas.List.{drop-set-lt, drop-drop}
 use Rattle.books.specs.declared.Entry.{Entry}
 use Rattle.strategy.specs.Lives.{Event}
 use Rattle.strategy.specs.Calls.{state, Begins}
@@ -39,19 +39,4 @@ loop-place-preserved g c =
           let r = c.make.ensures.life (history (take i cs) (take i bs)) q.past q.life in
           subst (λ (h : List (Event ⊥ _ ⊥)). LeadsOn o m h (state_of c.make.new.self)) (sym (history_more cs bs i _ c.make.result lt gt)) (record { past = r.0; life = r.1 });
       behind = drop-set-lt (i + 1) bs i c.make.result (omega arith) ∙ sym (drop-drop 1 i bs) ∙ ap (λ (ds : List _). drop 1 ds) c.loop-place.invariant.behind ∙ drop-drop 1 i c.args.answers.now;
-    }
-
-pub returns : goal.returns
-returns g c =
-    let o = g.K.Kind.ops in
-    let m = g.B.Book.meaning c.args.book.now in
-    let cs = c.args.calls.now in
-    let bs = c.loop-place.answers in
-    let e : c.loop-place.place ≡ length cs = omega arith in
-    record {
-      life = λ len.
-          let life = subst (λ (h : List (Event ⊥ _ ⊥)). LeadsOn o m h (state_of c.loop-place.analysis))
-          (ap (λ (k : ℕ). history (take k cs) (take k bs)) e ∙ ap (λ (ds : List _). history ds (take (length cs) bs)) (take_all (length cs) cs (omega arith))) (c.loop-place.invariant.life len) in
-          subst₂ (λ (ds : List (Entry _)) (n : ℕ). LeadsOn o m (history cs (take (length cs) bs)) (state ds n)) {x = c.loop-place.analysis.list.now} (search rules) (sym c.rounds.ensures.answer) life;
-      behind = subst (λ (k : ℕ). drop k bs ≡ drop k c.args.answers.now) e c.loop-place.invariant.behind;
     }

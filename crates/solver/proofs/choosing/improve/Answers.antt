@@ -1,11 +1,8 @@
-use Rattle.std.proofs.Common.{◌<◌, List, length, sym, refl, ◌∙◌, subst, arith}
+use Rattle.std.proofs.Common.{◌<◌, List, length, sym, ◌∙◌, subst, arith}
 use Rattle.books.specs.Entries.{Short}
 use Rattle.std.proofs.lemmas.Bool.{or_parts}
-use Rattle.strategy.proofs.Choosing.{improving_none, improving_more, improved_all}
+use Rattle.strategy.proofs.Choosing.{improving_more, improved_all}
 use Rattle.solver.proofs.choosing.improve.Goals as goal
-
-pub loop-unknown-init : goal.loop-unknown-init
-loop-unknown-init g c = (λ h. improving_none g.K.Kind.ops g.met.K.Kind.laws (g.B.Book.meaning c.args.book.now) c.args.list.now, λ e. refl)
 
 pub loop-unknown-preserved : goal.loop-unknown-preserved
 loop-unknown-preserved g c =

@@ -1,5 +1,6 @@
+use Rattle.strategy.specs.Steps.{opened_all}
 use Rattle.strategy.proofs.Paths.{Swept}
 use Rattle.solver.proofs.paths.evaluate.Given as goal
 
 abbrev pub invariant-loop-turn : goal.invariant-loop-turn
-invariant-loop-turn g l = Swept g.K.Kind.ops g.met.K.Kind.laws (g.B.Book.meaning l.book) l.initial.list l._turn l.list
+invariant-loop-turn g l = Swept g.K.Kind.ops g.met.K.Kind.laws (g.B.Book.meaning l.book) (opened_all g.K.Kind.ops l.fn.list) l._turn l.list

@@ -1,7 +1,5 @@
-use Rattle.std.proofs.Common.{Ok, ap, ◌∙◌, rules}
-use Rattle.books.specs.declared.Entry.{Entry}
-use Rattle.strategy.proofs.Choosing.{value_is}
-use Rattle.solver.proofs.Told.{told_value}
+use Rattle.std.proofs.Common.{rules}
+use Rattle.solver.proofs.Told.{told_value, value_of_entry}
 use Rattle.solver.proofs.analysis.Analysis.value.Goals as goal
 
 pub returns-in_err-entry_at-clause-life : goal.returns-in_err-entry_at-clause-life
@@ -9,9 +7,4 @@ returns-in_err-entry_at-clause-life g c m well = told_value g.K.Kind.ops g.met.K
 
 pub returns-clause-life : goal.returns-clause-life
 returns-clause-life g c m well =
-    let o = g.K.Kind.ops in
-    let es = c.args.self.now.list.now in
-    let u = c.args.unknown in
-    let e = c.in_ok-entry_at.field-0 in
-    let said = c.in_ok-entry_at.ensures in
-    told_value o g.met.K.Kind.laws m well es c.args.self.now.rounds u (Ok e.value) (said.0, ap (λ (d : Entry _). d.value) said.1 ∙ value_is o es u e said.0)
+    value_of_entry g.K.Kind.ops g.met.K.Kind.laws m well c.args.self.now.list.now c.args.self.now.rounds c.args.unknown c.in_ok-entry_at.field-0 c.in_ok-entry_at.ensures
