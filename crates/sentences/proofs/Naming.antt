@@ -1,11 +1,11 @@
 -- Names looked up in lists.
-use Rattle.std.proofs.Common.{◌≡◌, ℕ, zero, suc, ◌+◌, ◌<◌, ◌≤◌, Bool, true, false, ◌||◌, leb, List, [], ◌∷◌, ◌++◌, map, length, get_or, take, drop, is_some, Some, None, vec_items, Option, sym, refl, ap, ◌∙◌, arith, MatchOption}
-use Rattle.std.proofs.lemmas.Bool.{or_parts, cond-true, cond-false}
-use Rattle.std.proofs.lemmas.List.{take_more, drop_more, take_all, take-append-drop}
+use Rattle.std.proofs.Common.{subst, nat_lt, ◌≡◌, ℕ, zero, suc, ◌+◌, ◌<◌, ◌≤◌, Bool, true, false, ◌||◌, leb, List, [], ◌∷◌, ◌++◌, map, length, get_or, is_some, Some, None, vec_items, Option, sym, refl, ap, ◌∙◌, arith}
+use Rattle.std.proofs.lemmas.Bool.Decides.{nat_tests}
+use Rattle.std.specs.List.{position, position_or_len}
 use Rattle.words.specs.Words.{same, among}
 use Rattle.language.specs.Graphs as graphs
 use Rattle.language.specs.Graphs.{var_names, table_names, number_of}
-use Rattle.sentences.specs.Models.{variable_of, table_of}
+use Rattle.sentences.specs.Models.{LooksUp, variable_of, table_of}
 use Rattle.sentences.specs.declared.Variable.{Variable}
 use Rattle.sentences.specs.declared.Table.{Table}
 
@@ -18,57 +18,34 @@ pub table_names_map : (ts : List Table) → table_names (map table_of ts) ≡ ma
 table_names_map [] = refl
 table_names_map (t ∷ ts) = ap (λ (z : List (List ℕ)). vec_items t.name ∷ z) (table_names_map ts)
 
--- one name more that is not it
-among_snoc : (n : List ℕ) (ms : List (List ℕ)) (m : List ℕ) → among n ms ≡ false → same n m ≡ false → among n (ms ++ (m ∷ [])) ≡ false
-among_snoc n [] m e f = ap (λ (b : Bool). b || false) f
-among_snoc n (x ∷ ms) m e f =
-    let p = or_parts (same n x) (among n ms) e in
-    ap (λ (b : Bool). b || among n (ms ++ (m ∷ []))) p.0 ∙ among_snoc n ms m p.1 f
-
-map-++ : {A : Type 0} (f : A → List ℕ) (xs ys : List A) → map f (xs ++ ys) ≡ map f xs ++ map f ys
-map-++ f [] ys = refl
-map-++ f (x ∷ xs) ys = ap (λ (z : List (List ℕ)). f x ∷ z) (map-++ f xs ys)
-
--- the first that is it
-first_found : (n : List ℕ) (ms : List (List ℕ)) (m : List ℕ) (rest : List (List ℕ)) → among n ms ≡ false → same n m ≡ true →
-    (among n (ms ++ (m ∷ rest)) ≡ true) × (number_of n (ms ++ (m ∷ rest)) ≡ length ms)
-first_found n [] m rest e f = (ap (λ (b : Bool). b || among n rest) f, cond-true (same n m) 0 (suc (number_of n rest)) f)
-first_found n (x ∷ ms) m rest e f =
-    let p = or_parts (same n x) (among n ms) e in
-    let h = first_found n ms m rest p.1 f in
-    (ap (λ (b : Bool). b || among n (ms ++ (m ∷ rest))) p.0 ∙ h.0, cond-false (same n x) 0 (suc (number_of n (ms ++ (m ∷ rest)))) p.0 ∙ ap suc h.1)
-
 pub length_of : {A B : Type 0} (f : A → B) (xs : List A) → length (map f xs) ≡ length xs
 length_of f [] = refl
 length_of f (x ∷ xs) = ap suc (length_of f xs)
 
-module _ {A : Type 0} (f : A → List ℕ) (n : List ℕ) (xs : List A) where
-  -- none of the first i is it
-  abbrev pub Passed : ℕ → Type 0
-  Passed i = among n (map f (take i xs)) ≡ false
-
-  pub passed_none : Passed 0
-  passed_none = refl
-
-  pub passed_more : (i : ℕ) (x : A) → i < length xs → x ≡ get_or xs i x → Passed i → same n (f x) ≡ false → Passed (i + 1)
-  passed_more i x h e p q =
-      ap (λ (z : List A). among n (map f z)) (take_more xs i x h) ∙ ap (among n) (map-++ f (take i xs) (get_or xs i x ∷ [])) ∙
-      among_snoc n (map f (take i xs)) (f (get_or xs i x)) p (ap (λ (y : A). same n (f y)) (sym e) ∙ q)
-
-  pub passed_all : (i : ℕ) → length xs ≤ i → Passed i → among n (map f xs) ≡ false
-  passed_all i h p = ap (λ (z : List A). among n (map f z)) (sym (take_all i xs h)) ∙ p
-
-  pub found_at : (i : ℕ) (x : A) → i < length xs → x ≡ get_or xs i x → Passed i → same n (f x) ≡ true → (among n (map f xs) ≡ true) × (i ≡ number_of n (map f xs))
-  found_at i x h e p q =
-      let s : map f xs ≡ map f (take i xs) ++ (f (get_or xs i x) ∷ map f (drop (i + 1) xs)) = ap (map f) (split i x h) ∙ map-++ f (take i xs) (get_or xs i x ∷ drop (i + 1) xs) in
-      let r = first_found n (map f (take i xs)) (f (get_or xs i x)) (map f (drop (i + 1) xs)) p (ap (λ (y : A). same n (f y)) (sym e) ∙ q) in
-      (ap (among n) s ∙ r.0, sym (ap (number_of n) s ∙ r.1 ∙ length_of f (take i xs) ∙ long i h))
+-- the first that is it, by its place among the things that have the names
+module _ {A : Type 0} (f : A → List ℕ) (n : List ℕ) where
+  first_of : (xs : List A) → number_of n (map f xs) ≡ position_or_len (λ x. same n (f x)) xs
+  first_of [] = refl
+  first_of (x ∷ xs) = either _ _ (same n (f x)) (first_of xs)
     where
-      split : (i : ℕ) (x : A) → i < length xs → xs ≡ take i xs ++ (get_or xs i x ∷ drop (i + 1) xs)
-      split i x h = sym (take-append-drop i xs) ∙ ap (λ (z : List A). take i xs ++ z) (drop_more xs i x h)
+      either : (i j : ℕ) (b : Bool) → i ≡ j → mathlib.Core.Bool.cond b 0 (suc i) ≡ mathlib.Core.Bool.cond (mathlib.Core.Bool.not b) (1 + j) 0
+      either i j true e = refl
+      either i j false e = omega arith
 
-      long : (i : ℕ) → i < length xs → length (take i xs) ≡ i
-      long i h = simp lib.ListN.length-take (omega arith)
+  there_is : (xs : List A) → among n (map f xs) ≡ nat_lt (position_or_len (λ x. same n (f x)) xs) (length xs)
+  there_is [] = refl
+  there_is (x ∷ xs) = either _ _ _ (same n (f x)) (there_is xs)
+    where
+      either : (i j : ℕ) (c b : Bool) → c ≡ nat_lt i j → (b || c) ≡ nat_lt (mathlib.Core.Bool.cond (mathlib.Core.Bool.not b) (1 + i) 0) (suc j)
+      either i j c true e = grind (arith, nat_tests)
+      either i j c false e = e ∙ grind (arith, nat_tests)
+
+  pub looked_up : (xs : List A) (r : Option ℕ) → r ≡ position (λ x. same n (f x)) xs → LooksUp n (map f xs) r
+  looked_up xs r e = subst (LooksUp n (map f xs)) (sym e) (go _ (there_is xs))
+    where
+      go : (b : Bool) → among n (map f xs) ≡ b → LooksUp n (map f xs) (mathlib.Core.Bool.cond b (Some (position_or_len (λ x. same n (f x)) xs)) None)
+      go true h = (h, sym (first_of xs))
+      go false h = h
 
 -- the names of a slice of variables, or of tables
 pub names_of_vars : (xs vs : List Variable) → xs ≡ vs → map (λ (v : Variable). vec_items v.name) xs ≡ var_names (map variable_of vs)
@@ -77,10 +54,7 @@ names_of_vars xs vs e = ap (map (λ (v : Variable). vec_items v.name)) e ∙ sym
 pub names_of_tables : (xs ts : List Table) → xs ≡ ts → map (λ (t : Table). vec_items t.name) xs ≡ table_names (map table_of ts)
 names_of_tables xs ts e = ap (map (λ (t : Table). vec_items t.name)) e ∙ sym (table_names_map ts)
 
-abbrev pub LookedUp : List ℕ → List (List ℕ) → Option ℕ → Type 0
-LookedUp n ns o = MatchOption o (among n ns ≡ false) (λ i. (among n ns ≡ true) × (i ≡ number_of n ns))
-
-pub is_there : (n : List ℕ) (ns ms : List (List ℕ)) → ns ≡ ms → (o : Option ℕ) → LookedUp n ns o → is_some o ≡ among n ms
+pub is_there : (n : List ℕ) (ns ms : List (List ℕ)) → ns ≡ ms → (o : Option ℕ) → LooksUp n ns o → is_some o ≡ among n ms
 is_there n ns ms e None h = sym (ap (among n) (sym e) ∙ h)
 is_there n ns ms e (Some i) h = sym (ap (among n) (sym e) ∙ h.0)
 

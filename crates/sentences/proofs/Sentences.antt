@@ -1,79 +1,73 @@
 -- One word of a sentence, taken or refused.
-use Rattle.std.proofs.Common.{◌≡◌, ℕ, ◌^◌, ◌<◌, Bool, true, false, ◌||◌, eqb, List, [], ◌∷◌, ◌++◌, pos, neg_ℤ, Some, None, sym, refl, ap, ◌∙◌, arith, Bor}
-use borrow.Author.Differences.{ints}
+use Rattle.std.proofs.Common.{◌≡◌, ℕ, Bool, true, false, ◌||◌, List, [], ◌∷◌, Some, None, Option, Ok, Err, Result, IsErrAnd, MatchResult, sym, refl, ap, ◌∙◌, Bor}
 use Rattle.std.proofs.lemmas.Bool.{false≢true}
 use Rattle.refusal.specs.declared.Place.{Place}
 use Rattle.refusal.specs.declared.Refusal.{Refusal}
 use Rattle.refusal.specs.declared.Reason.TheVariants.{Unexpected}
 use Rattle.refusal.specs.Reasons.{located}
-use Rattle.words.specs.Words.{Word, Next, Text}
+use Rattle.words.specs.Words.{Next, Text, place}
 use Rattle.words.specs.Words.Word.{name, number, mark}
-use Rattle.words.specs.Words.Text.{reads}
+use Rattle.words.specs.Words.Text.{ends, reads}
 use Rattle.words.specs.Words.Next.{word, fault, end}
-use Rattle.words.specs.Marks.{code}
-use Rattle.words.specs.Reader.{as_next, leads}
+use Rattle.words.specs.Reader.{as_word, as_next, ahead, leads}
 use Rattle.words.specs.declared.Mark.{Mark}
 use Rattle.words.specs.declared.Mark.TheVariants.{If, While, Var, Table}
-use Rattle.words.specs.declared.Found.{Found}
-use Rattle.words.specs.declared.Found.TheVariants.{Name, Number, Sign, Fault, End}
+use Rattle.words.specs.declared.Word.{Word}
+use Rattle.words.specs.declared.Word.TheVariants.{Name, Number, Sign}
+use Rattle.words.specs.declared.Fault.{Fault}
 use Rattle.words.proofs.Told.{mark_same}
-use Rattle.language.specs.Expected.{Expect, one, pick, step, refusal}
+use Rattle.language.specs.Expected.{Expect, Terminal, fits, pick, step, refusal, refuse}
 use Rattle.language.specs.Expected.Expect.{just}
-use Rattle.language.specs.Expected.Terminal.{any_name, any_number}
-use Rattle.language.specs.Readings.{first_is, first_names, begins_statement, begins_declaration, said, Anywhere, TurnsBack, Unended}
-use Rattle.language.specs.Readings.TurnsBack.{by_rule}
+use Rattle.language.specs.Expected.Terminal.{the, any_name, any_number}
+use Rattle.language.specs.Readings.{first_is, first_names, begins_statement, begins_declaration, Anywhere, TurnsBack}
 use Rattle.language.proofs.Passing.{unfit_word}
-use Rattle.sentences.specs.Models.{unfit, Small}
+use Rattle.language.proofs.Turning.{turns_at}
+use Rattle.sentences.specs.Models.{left}
+use Rattle.sentences.specs.declared.sentence.Sentence.{Sentence}
 
-unfit_place : (f : Found) → (p : Place) × ((unfit f).place ≡ Some p)
-unfit_place (Name bs p) = (p, refl)
-unfit_place (Number n p) = (p, refl)
-unfit_place (Sign m p) = (p, refl)
-unfit_place (Fault r p) = (p, refl)
-unfit_place (End p) = (p, refl)
+-- the exit of the `?` that hands on a fault
+pub fault_exit : {T : Type 0} (P : T → Type 0) (f : Fault) (t t₂ : Text) (x : Result T Refusal) → t ≡ leads (as_next (Err f)) t₂ →
+    IsErrAnd x (λ y. y ≡ located f.reason f.place) → MatchResult x P (λ e. (m : Terminal) → TurnsBack (just m ∷ []) Anywhere t e)
+fault_exit P f t t₂ (Ok v) e h = absurd h
+fault_exit P f t t₂ (Err y) e h = λ m. turns_at (just m ∷ []) Anywhere t y f.reason f.place h (λ k past _. ap (refusal (just m ∷ k) past) e)
 
--- what is found is not expected
-module _ (es : List Expect) (f : Found) (t t₂ : Text) (r : Refusal) (e : t ≡ leads (as_next f) t₂) (g : r ≡ unfit f) where
-  pub turned : ((k : List Expect) (past : List Word) → refusal (es ++ k) past (leads (as_next f) t₂) ≡ said (unfit f)) → TurnsBack es Anywhere t r
-  turned h =
-      let p = unfit_place f in
-      by_rule p.0 (ap (λ (x : Refusal). x.place) g ∙ p.1) (λ k past _. ap (refusal (es ++ k) past) e ∙ h k past ∙ ap said (sym g))
+-- no word is left
+pub at_end : (m : Terminal) (p : Place) (t : Text) (r : Refusal) → t ≡ ends p → r ≡ located Unexpected p → TurnsBack (just m ∷ []) Anywhere t r
+at_end m p t r e g = turns_at (just m ∷ []) Anywhere t r Unexpected p g (λ k past _. ap (refusal (just m ∷ k) past) e)
 
-pub no_end : (f : Found) (t t₂ : Text) (r : Refusal) → t ≡ leads (as_next f) t₂ → r ≡ unfit f → ((p : Place) → f ≡ End p → ⊥) → Unended t r
-no_end f t t₂ r e g n =
-    let p = unfit_place f in
-    record { at = p.0; placed = ap (λ (x : Refusal). x.place) g ∙ p.1; refuses = λ past. ap (refusal [] past) e ∙ go f n past ∙ ap said (sym g) }
+-- the word does not fit
+pub at_word : (m : Terminal) (w : Word) (p : Place) (t t₂ : Text) (r : Refusal) → t ≡ reads (as_word w p) t₂ → r ≡ located Unexpected p → fits m (as_word w p) ≡ false →
+    TurnsBack (just m ∷ []) Anywhere t r
+at_word m w p t t₂ r e g h =
+    turns_at (just m ∷ []) Anywhere t r Unexpected p g (λ k past _. ap (refusal (just m ∷ k) past) e ∙ unfit_word (just m ∷ k) past (as_word w p) t₂ (go (fits m (as_word w p)) h k) ∙ ap (refuse 5) (place_of w))
   where
-    go : (f : Found) → ((p : Place) → f ≡ End p → ⊥) → (past : List Word) → refusal [] past (leads (as_next f) t₂) ≡ said (unfit f)
-    go (Name bs p) n past = refl
-    go (Number m p) n past = refl
-    go (Sign m p) n past = refl
-    go (Fault r p) n past = refl
-    go (End p) n past = absurd (n p refl)
+    go : (b : Bool) → b ≡ false → (k : List Expect) → pick (mathlib.Core.Bool.cond b (Some []) None) false k (step k (as_word w p)) ≡ None
+    go true e k = absurd (false≢true (sym e))
+    go false e k = refl
 
-pub no_number : (f : Found) (t : Text) → ((n : ℕ) (p : Place) → f ≡ Number n p → ⊥) → (k : List Expect) (past : List Word) →
-    refusal (just any_number ∷ k) past (leads (as_next f) t) ≡ said (unfit f)
-no_number (Name bs p) t n k past = refl
-no_number (Number m p) t n k past = absurd (n m p refl)
-no_number (Sign m p) t n k past = refl
-no_number (Fault r p) t n k past = refl
-no_number (End p) t n k past = refl
+    place_of : (w : Word) → place (as_word w p) ≡ p
+    place_of (Name bs) = refl
+    place_of (Number n) = refl
+    place_of (Sign m) = refl
 
-pub no_mark : (m : Mark) (f : Found) (t : Text) → ((m₂ : Mark) (p : Place) → f ≡ Sign m₂ p → ⊥) → (k : List Expect) (past : List Word) →
-    refusal (one m ∷ k) past (leads (as_next f) t) ≡ said (unfit f)
-no_mark m (Name bs p) t n k past = refl
-no_mark m (Number n₂ p) t n k past = refl
-no_mark m (Sign m₂ p) t n k past = absurd (n m₂ p refl)
-no_mark m (Fault r p) t n k past = refl
-no_mark m (End p) t n k past = refl
+pub no_number : (w : Word) (p : Place) → ((n : ℕ) → w ≡ Number n → ⊥) → fits any_number (as_word w p) ≡ false
+no_number (Name bs) p n = refl
+no_number (Number m) p n = absurd (n m refl)
+no_number (Sign m) p n = refl
 
-pub other_mark : (m m₂ : Mark) (p : Place) (t : Text) → eqb (code m) (code m₂) ≡ false → (k : List Expect) (past : List Word) →
-    refusal (one m ∷ k) past (reads (mark m₂ p) t) ≡ said (located Unexpected p)
-other_mark m m₂ p t e k past = unfit_word (one m ∷ k) past (mark m₂ p) t (go (eqb (code m) (code m₂)) e)
-  where
-    go : (b : Bool) → b ≡ false → pick (mathlib.Core.Bool.cond b (Some []) None) false k (step k (mark m₂ p)) ≡ None
-    go true e = absurd (false≢true (sym e))
-    go false e = refl
+pub no_name : (w : Word) (p : Place) → ((bs : Bor (List ℕ)) → w ≡ Name bs → ⊥) → fits any_name (as_word w p) ≡ false
+no_name (Name bs) p n = absurd (n bs refl)
+no_name (Number m) p n = refl
+no_name (Sign m) p n = refl
+
+pub no_sign : (m : Mark) (w : Word) (p : Place) → ((m₂ : Mark) → w ≡ Sign m₂ → ⊥) → fits (the m) (as_word w p) ≡ false
+no_sign m (Name bs) p n = refl
+no_sign m (Number k) p n = refl
+no_sign m (Sign m₂) p n = absurd (n m₂ refl)
+
+-- nothing is left
+pub all_read : (s : Sentence) (w : Option Word) (p : Place) → s.present ≡ Ok (w, p) → w ≡ None → (q : Place) × (left s ≡ ends q)
+all_read s w p e f = (p, ap (λ (x : Result (Option Word × Place) Fault). leads (as_next x) (ahead s.words)) (e ∙ ap (λ (o : Option Word). Ok (o, p)) f))
 
 -- the mark that is known to be the present word is the one taken
 pub taken_mark : (m : Mark) (n : Next) (t t₂ : Text) → t ≡ leads n t₂ → first_is m t ≡ true → (p : Place) × (t ≡ reads (mark m p) t₂)
@@ -82,21 +76,6 @@ taken_mark m (word (number n p)) t t₂ e h = absurd (false≢true (sym (ap (fir
 taken_mark m (word (mark m₂ p)) t t₂ e h = (p, e ∙ ap (λ (x : Mark). reads (mark x p) t₂) (sym (mark_same m m₂ (sym (ap (first_is m) e) ∙ h))))
 taken_mark m (fault n p) t t₂ e h = absurd (false≢true (sym (ap (first_is m) e) ∙ h))
 taken_mark m (end p) t t₂ e h = absurd (false≢true (sym (ap (first_is m) e) ∙ h))
-
-pub no_name : (f : Found) (t : Text) → ((bs : Bor (List ℕ)) (p : Place) → f ≡ Name bs p → ⊥) → (k : List Expect) (past : List Word) →
-    refusal (just any_name ∷ k) past (leads (as_next f) t) ≡ said (unfit f)
-no_name (Name bs p) t n k past = absurd (n bs p refl)
-no_name (Number m p) t n k past = refl
-no_name (Sign m p) t n k past = refl
-no_name (Fault r p) t n k past = refl
-no_name (End p) t n k past = refl
-
--- numbers of 32 bits, and their negatives
-pub small_plain : (n : ℕ) → n < 2 ^ 32 → Small (pos n)
-small_plain n h = (omega (arith, ints), omega (arith, ints))
-
-pub small_negative : (n : ℕ) → n < 2 ^ 32 → Small (neg_ℤ (pos n))
-small_negative n h = (omega (arith, ints), omega (arith, ints))
 
 -- what begins a statement, and is no `if` and no `while`, is a name
 pub a_name : (t : Text) → begins_statement t ≡ true → first_is If t ≡ false → first_is While t ≡ false → first_names t ≡ true

@@ -3,7 +3,8 @@ use Rattle.std.proofs.Common.{◌≡◌, ℕ, ◌≤◌, List, [], length, IsErr
 use Rattle.refusal.specs.declared.Refusal.{Refusal}
 use Rattle.words.specs.Words.{Word, Text, text}
 use Rattle.language.specs.Expected.{Expect, refusal, at_first}
-use Rattle.language.specs.Readings.{said, Refuses, TurnsBack, Unended}
+use Rattle.language.specs.Graphs.{Variable, Table, Drawing, blank_sheet}
+use Rattle.language.specs.Readings.{said, Refuses, TurnsBack, Unended, Stated}
 use Rattle.language.specs.Readings.TurnsBack.{by_rule as rule_fails, by_want as memory_wants}
 use Rattle.language.proofs.Whole.{verdict_refused}
 use Rattle.sentences.specs.Outlines.{RefusedAs, Outlined}
@@ -21,3 +22,7 @@ module _ (bs : List ℕ) (t : Text) (e : Refusal) (short : length bs ≤ 8192) (
 
   pub unended : {t₂ : Text} → (Unended t₂ e → refusal at_first [] t ≡ said e) → Unended t₂ e → RefusedAs bs e
   unended g u = by_verdict (verdict_refused bs t e u.at short f u.placed (g u))
+
+-- what is drawn of all statements begins with one point and no edge
+pub from_blank : {vs : List Variable} {ts : List Table} {t t₂ : Text} {d d₂ : Drawing} → d ≡ blank_sheet → Stated vs ts 8 t t₂ d d₂ → Stated vs ts 8 t t₂ blank_sheet d₂
+from_blank {vs} {ts} {t} {t₂} {d} {d₂} e h = subst (λ (x : Drawing). Stated vs ts 8 t t₂ x d₂) e h

@@ -2,10 +2,11 @@
 ghost use Rattle.std.specs.Prelude.{◌≡◌, [], ◌∷◌, MatchResult};
 ghost use Rattle.language.specs.Grammar as grammar;
 ghost use Rattle.language.specs.Expected.Expect.{condition, operator, operand};
-ghost use Rattle.language.specs.Readings.{Anywhere, TurnsBack, Over, KnowsAsks, KnowsCompares, is_operator, is_operand, is_condition};
-ghost use Rattle.sentences.specs.Models.{left as left_of, vars_of, tabs_of, order_of, operand_of, condition_of, guard_of, opposite_of, SmallOperand};
+ghost use Rattle.language.specs.Readings.{Anywhere, TurnsBack, Over, KnowsAsks, is_operator, is_operand, is_condition};
+ghost use Rattle.sentences.specs.Models.{left as left_of, Reads, Halts, BehindOrder, order_of, operand_in, condition_in, guard_of, opposite_of, SmallOperand};
 
-use crate::names::{Names, same_name};
+use crate::names::same_name;
+use crate::script::Script;
 use crate::sentence::Sentence;
 use language::Action;
 use refusal::{Reason, Refusal};
@@ -33,51 +34,50 @@ pub struct Condition {
     pub right: Operand,
 }
 
-// Takes a condition.
-pub(crate) fn read_condition(s: &mut Sentence, names: &Names) -> Result<Condition, Refusal>
-    ensures { MatchResult result (λ x. (a : grammar.Condition) × (x ≡ condition_of (vars_of names.now) (tabs_of names.now) a) × SmallOperand x.right × Over (condition ∷ []) (KnowsAsks (vars_of names.now) (tabs_of names.now)) (is_condition a) (left_of s.old) (left_of s.new)) (λ e. TurnsBack (condition ∷ []) (KnowsAsks (vars_of names.now) (tabs_of names.now)) (left_of s.old) e) }
-{
-    let (name, place) = s.name()?;
-    let left = names.variable(name, place)?;
-    let order = read_operator(s)?;
-    let right = read_operand(s, names, name)?;
-    Ok(Condition { left, order, right })
+impl<'a> Script<'a> {
+    // Takes a condition.
+    pub(crate) fn read_condition(&mut self) -> Result<Condition, Refusal>
+        ensures { MatchResult result (λ x. (a : grammar.Condition) × (x ≡ condition_in self.old a) × SmallOperand x.right × Reads (condition ∷ []) KnowsAsks (is_condition a) self.old self.new) (λ e. Halts (condition ∷ []) KnowsAsks self.old e) }
+    {
+        let (name, place) = self.sentence.name()?;
+        let left = self.names.variable(name, place)?;
+        let order = read_operator(&mut self.sentence)?;
+        let right = self.read_operand(name)?;
+        Ok(Condition { left, order, right })
+    }
+
+    // Takes what the variable of the name `left` is compared with.
+    fn read_operand(&mut self, left: &[u8]) -> Result<Operand, Refusal>
+        ensures { MatchResult result (λ x. (v : grammar.Operand) × (x ≡ operand_in self.old v) × SmallOperand x × Reads (operand ∷ []) (BehindOrder left.now) (is_operand v) self.old self.new) (λ e. Halts (operand ∷ []) (BehindOrder left.now) self.old e) }
+    {
+        if self.sentence.at_name() {
+            let (name, place) = self.sentence.name()?;
+            let k = self.names.variable(name, place)?;
+            if same_name(name, left) {
+                return Err(Refusal::at(Reason::SameName, place));
+            }
+            return Ok(Operand::Against(k));
+        }
+        let (c, _) = self.sentence.constant()?;
+        Ok(Operand::Limit(c))
+    }
 }
 
 // Takes a comparison.
 fn read_operator(s: &mut Sentence) -> Result<Order, Refusal>
     ensures { MatchResult result (λ x. (o : grammar.Order) × (x ≡ order_of o) × Over (operator ∷ []) Anywhere (is_operator o) (left_of s.old) (left_of s.new)) (λ e. TurnsBack (operator ∷ []) Anywhere (left_of s.old) e) }
 {
-    if s.at(Mark::Less) {
-        let _ = s.take();
+    if s.accept(Mark::Less) {
         return Ok(Order::Below);
     }
-    if s.at(Mark::LessEqual) {
-        let _ = s.take();
+    if s.accept(Mark::LessEqual) {
         return Ok(Order::AtMost);
     }
-    if s.at(Mark::Greater) {
-        let _ = s.take();
+    if s.accept(Mark::Greater) {
         return Ok(Order::Above);
     }
-    let _ = s.mark(Mark::GreaterEqual)?;
+    s.mark(Mark::GreaterEqual)?;
     Ok(Order::AtLeast)
-}
-
-// Takes what the variable of the name `left` is compared with.
-fn read_operand(s: &mut Sentence, names: &Names, left: &[u8]) -> Result<Operand, Refusal>
-    ensures { MatchResult result (λ x. (v : grammar.Operand) × (x ≡ operand_of (vars_of names.now) (tabs_of names.now) v) × SmallOperand x × Over (operand ∷ []) (KnowsCompares (vars_of names.now) (tabs_of names.now) left.now) (is_operand v) (left_of s.old) (left_of s.new)) (λ e. TurnsBack (operand ∷ []) (KnowsCompares (vars_of names.now) (tabs_of names.now) left.now) (left_of s.old) e) }
-{
-    if s.at_name() {
-        let (name, place) = s.name()?;
-        let k = names.variable(name, place)?;
-        if same_name(name, left) {
-            return Err(Refusal::at(Reason::SameName, place));
-        }
-        return Ok(Operand::Against(k));
-    }
-    let (c, _) = s.constant()?;
-    Ok(Operand::Limit(c))
 }
 
 impl Order {

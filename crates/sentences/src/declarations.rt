@@ -1,18 +1,19 @@
 // Declarations of variables and tables.
-ghost use Rattle.std.specs.Prelude.{◌≡◌, true, false, ◌||◌, [], ◌∷◌, MatchResult, ◌==◌, nat_lt};
+ghost use Rattle.std.specs.Prelude.{◌≡◌, true, false, ◌||◌, [], ◌∷◌, MatchResult, ◌==◌, nat_le, nat_lt};
 ghost use Rattle.words.specs.Words.{among};
 ghost use Rattle.words.specs.Words.Text.{reads};
 ghost use Rattle.words.specs.Words.Word.{name};
 ghost use Rattle.language.specs.Graphs.{var_names, table_names};
 ghost use Rattle.language.specs.Expected.Expect.{just, heads};
 ghost use Rattle.language.specs.Expected.Terminal.{any_name};
-ghost use Rattle.language.specs.Readings.{begins_declaration, TurnsBack, New, Starts, AtStart, Declares, Declared, varying, tabling};
-ghost use Rattle.sentences.specs.Models.{left, vars_of, tabs_of};
+ghost use Rattle.language.specs.Readings.{begins_declaration, TurnsBack, Anywhere, AtStart, Declared, varying, tabling};
+ghost use Rattle.sentences.specs.Models.{left, vars_of, tabs_of, Halts, NewAt, StartsAt, Declares, Sizing, sizing, Ending, ending, IsNew};
 
-use crate::names::Names;
+use crate::script::Script;
 use crate::sentence::Sentence;
 use crate::side::read_range;
 use crate::{Table, Variable};
+use language::Range;
 use refusal::{Place, Reason, Refusal};
 use std::alloc::Global;
 use words::Mark;
@@ -20,81 +21,99 @@ use words::Mark;
 // At most so many variables, and so many tables.
 const MOST_NAMES: usize = 8;
 
-// Takes a name that is not declared yet; `full` says that there is no room for one more of its sort.
-fn read_new_name<'a>(s: &mut Sentence<'a>, names: &Names, full: bool) -> Result<&'a [u8], Refusal>
-    ensures { MatchResult result (λ n. (p : Place) × (left s.old ≡ reads (name n.now p) (left s.new)) × ((among n.now (var_names (vars_of names.now)) || among n.now (table_names (tabs_of names.now))) ≡ false) × (full ≡ false)) (λ e. TurnsBack (just any_name ∷ []) (New (vars_of names.now) (tabs_of names.now) full) (left s.old) e) }
-{
-    let (name, place) = s.name()?;
-    if names.has(name) {
-        return Err(Refusal::at(Reason::DeclaredBefore, place));
-    }
-    if full {
-        return Err(Refusal::at(Reason::TooManyNames, place));
-    }
-    Ok(name)
-}
-
-// Takes var name = range ;
-fn read_variable(heap: Global, s: &mut Sentence, names: &mut Names) -> Result<(), Refusal>
-    ensures { MatchResult result (λ _. Declares (vars_of names.old) (vars_of names.new) (tabs_of names.old) (tabs_of names.new) (left s.old) (left s.new)) (λ e. TurnsBack varying (Starts (vars_of names.old) (tabs_of names.old) 8) (left s.old) e) }
-{
-    let _ = s.mark(Mark::Var)?;
-    let full = names.variables.len() >= MOST_NAMES;
-    let name = read_new_name(s, names, full)?;
-    let _ = s.mark(Mark::Equals)?;
-    let range = read_range(s)?;
-    let _ = s.mark(Mark::Semicolon)?;
-    let name = Vec::from_slice(heap, name)?;
-    names.variables.push(Variable { name, range })?;
-    Ok(())
-}
+// A table has at most so many entries.
+const MOST_ENTRIES: u32 = 65536;
 
 // Whether a table may not have this size.
 fn wrong_size(size: u32) -> bool
     ensures { result ≡ (size == 0 || nat_lt 65536 size) }
 {
-    size == 0 || size > 65536
+    size == 0 || size > MOST_ENTRIES
 }
 
-// Takes table name [ size ] = range ;
-fn read_table(heap: Global, s: &mut Sentence, names: &mut Names) -> Result<(), Refusal>
-    ensures { MatchResult result (λ _. Declares (vars_of names.old) (vars_of names.new) (tabs_of names.old) (tabs_of names.new) (left s.old) (left s.new)) (λ e. TurnsBack tabling (Starts (vars_of names.old) (tabs_of names.old) 8) (left s.old) e) }
+// Takes [ size ].
+fn read_size(s: &mut Sentence) -> Result<u32, Refusal>
+    ensures { MatchResult result (λ c. Sizing c (left s.old) (left s.new)) (λ e. TurnsBack sizing Anywhere (left s.old) e) }
 {
-    let _ = s.mark(Mark::Table)?;
-    let full = names.tables.len() >= MOST_NAMES;
-    let name = read_new_name(s, names, full)?;
-    let _ = s.mark(Mark::OpenBracket)?;
-    let (size, at) = s.number()?;
+    s.mark(Mark::OpenBracket)?;
+    let (size, place) = s.number()?;
     if wrong_size(size) {
-        return Err(Refusal::at(Reason::TableSize, at));
+        return Err(Refusal::at(Reason::TableSize, place));
     }
-    let _ = s.mark(Mark::CloseBracket)?;
-    let _ = s.mark(Mark::Equals)?;
+    s.mark(Mark::CloseBracket)?;
+    Ok(size)
+}
+
+// Takes = range ;
+fn read_ending(s: &mut Sentence) -> Result<Range, Refusal>
+    ensures { MatchResult result (λ g. Ending g (left s.old) (left s.new)) (λ e. TurnsBack ending Anywhere (left s.old) e) }
+{
+    s.mark(Mark::Equals)?;
     let range = read_range(s)?;
-    let _ = s.mark(Mark::Semicolon)?;
-    let name = Vec::from_slice(heap, name)?;
-    names.tables.push(Table { name, size, range })?;
-    Ok(())
+    s.mark(Mark::Semicolon)?;
+    Ok(range)
 }
 
-// Takes a declaration, where one begins.
-fn read_declaration(heap: Global, s: &mut Sentence, names: &mut Names) -> Result<(), Refusal>
-    ensures { MatchResult result (λ _. Declares (vars_of names.old) (vars_of names.new) (tabs_of names.old) (tabs_of names.new) (left s.old) (left s.new)) (λ e. begins_declaration (left s.old) ≡ true → TurnsBack (heads ∷ []) (Starts (vars_of names.old) (tabs_of names.old) 8) (left s.old) e) }
-{
-    if s.at(Mark::Var) {
-        read_variable(heap, s, names)
-    } else {
-        read_table(heap, s, names)
+impl<'a> Script<'a> {
+    // Takes a name that is not declared yet, where so many names of its sort are declared.
+    fn read_new_name(&mut self, count: usize) -> Result<&'a [u8], Refusal>
+        ensures { MatchResult result (λ n. (p : Place) × (left self.old.sentence ≡ reads (name n.now p) (left self.new.sentence)) × ((among n.now (var_names (vars_of self.old.names)) || among n.now (table_names (tabs_of self.old.names))) ≡ false) × (nat_le 8 count ≡ false) × (self.new.names ≡ self.old.names)) (λ e. Halts (just any_name ∷ []) (NewAt (nat_le 8 count)) self.old e) }
+    {
+        let (name, place) = self.sentence.name()?;
+        if self.names.has(name) {
+            return Err(Refusal::at(Reason::DeclaredBefore, place));
+        }
+        if count >= MOST_NAMES {
+            return Err(Refusal::at(Reason::TooManyNames, place));
+        }
+        Ok(name)
     }
-}
 
-// Takes all declarations.
-pub(crate) fn read_declarations(heap: Global, s: &mut Sentence) -> Result<Names, Refusal>
-    ensures { MatchResult result (λ n. Declared (vars_of n) (tabs_of n) (left s.old) (left s.new) × (begins_declaration (left s.new) ≡ false)) (λ e. TurnsBack (heads ∷ []) AtStart (left s.old) e) }
-{
-    let mut names = Names::new(heap);
-    while s.at_declaration() {
-        read_declaration(heap, s, &mut names)?;
+    // Takes var name = range ;
+    fn read_variable(&mut self, heap: Global) -> Result<(), Refusal>
+        ensures { MatchResult result (λ _. Declares self.old self.new) (λ e. Halts varying (StartsAt 8) self.old e) }
+    {
+        self.sentence.mark(Mark::Var)?;
+        let count = self.names.variables.len();
+        let name = self.read_new_name(count)?;
+        let range = read_ending(&mut self.sentence)?;
+        let name = Vec::from_slice(heap, name)?;
+        self.names.variables.push(Variable { name, range })?;
+        Ok(())
     }
-    Ok(names)
+
+    // Takes table name [ size ] = range ;
+    fn read_table(&mut self, heap: Global) -> Result<(), Refusal>
+        ensures { MatchResult result (λ _. Declares self.old self.new) (λ e. Halts tabling (StartsAt 8) self.old e) }
+    {
+        self.sentence.mark(Mark::Table)?;
+        let count = self.names.tables.len();
+        let name = self.read_new_name(count)?;
+        let size = read_size(&mut self.sentence)?;
+        let range = read_ending(&mut self.sentence)?;
+        let name = Vec::from_slice(heap, name)?;
+        self.names.tables.push(Table { name, size, range })?;
+        Ok(())
+    }
+
+    // Takes a declaration, where one begins.
+    fn read_declaration(&mut self, heap: Global) -> Result<(), Refusal>
+        ensures { MatchResult result (λ _. Declares self.old self.new) (λ e. begins_declaration (left self.old.sentence) ≡ true → Halts (heads ∷ []) (StartsAt 8) self.old e) }
+    {
+        if self.sentence.at(Mark::Var) {
+            self.read_variable(heap)
+        } else {
+            self.read_table(heap)
+        }
+    }
+
+    // Takes all declarations of a script of which no name is known yet.
+    pub(crate) fn read_declarations(&mut self, heap: Global) -> Result<(), Refusal>
+        ensures { IsNew self.old → MatchResult result (λ _. Declared (vars_of self.new.names) (tabs_of self.new.names) (left self.old.sentence) (left self.new.sentence) × (begins_declaration (left self.new.sentence) ≡ false)) (λ e. TurnsBack (heads ∷ []) AtStart (left self.old.sentence) e) }
+    {
+        while self.sentence.at_declaration() {
+            self.read_declaration(heap)?;
+        }
+        Ok(())
+    }
 }

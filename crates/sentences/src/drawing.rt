@@ -3,6 +3,7 @@ ghost use Rattle.std.specs.Prelude.{◌+◌, ◌≤◌, vec_len};
 
 use language::{Edge, Lookup};
 
+mod figures;
 mod strokes;
 
 // The count of points, the point where the next statement stands, edges and table reads.

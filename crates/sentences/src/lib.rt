@@ -13,13 +13,15 @@ mod condition;
 mod declarations;
 mod drawing;
 mod names;
+mod script;
 mod sentence;
 mod side;
 mod statements;
 
 pub use drawing::Drawing;
-pub use names::Names;
-use sentence::Sentence;
+pub use names::{Named, Names};
+use script::Script;
+use statements::Scribe;
 
 // A variable, with the range of its start values.
 #[derive(Drop)]
@@ -52,6 +54,7 @@ pub const MOST_POINTS: usize = 96;
 // Blocks nest at most this deep.
 const MOST_LEVELS: u8 = 8;
 
+#[tactic(auto, using(language::proofs::Stands::grammar_stands, language::proofs::Stands::verdicts_stand, language::proofs::Stands::graphs_stand, language::proofs::Shown::examples,))]
 // The names and the drawing of a script, or why and where the text is none.
 pub fn read_outline(heap: Global, script: &[u8]) -> Result<Outline, Refusal>
     ensures verdict { Outlined script.now result }
@@ -59,18 +62,20 @@ pub fn read_outline(heap: Global, script: &[u8]) -> Result<Outline, Refusal>
     ensures examples { Examples }
 {
     if script.len() > MOST_BYTES {
-        return Err(Refusal {
-            reason: Reason::ScriptTooLong,
-            place: None,
-        });
+        return Err(Refusal::unplaced(Reason::ScriptTooLong));
     }
-    let mut sentence = Sentence::new(script);
-    let names = declarations::read_declarations(heap, &mut sentence)?;
-    let mut drawing = Drawing::new(heap);
-    statements::read_statements(&mut sentence, &names, &mut drawing, MOST_LEVELS)?;
-    sentence.end()?;
-    if let Some(place) = drawing.maker(MOST_POINTS) {
+    let mut scribe = Scribe {
+        script: Script::new(heap, script),
+        drawing: Drawing::new(heap),
+    };
+    scribe.script.read_declarations(heap)?;
+    scribe.read_statements(MOST_LEVELS)?;
+    scribe.script.sentence.end()?;
+    if let Some(place) = scribe.drawing.maker(MOST_POINTS) {
         return Err(Refusal::at(Reason::TooManyPoints, place));
     }
-    Ok(Outline { names, drawing })
+    Ok(Outline {
+        names: scribe.script.names,
+        drawing: scribe.drawing,
+    })
 }

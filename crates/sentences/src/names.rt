@@ -1,10 +1,8 @@
 // The names that a script declares: variables and tables share one space of names.
-ghost use Rattle.std.specs.Prelude.{◌≡◌, ℕ, true, false, ◌||◌, List, [], map, MatchOption, MatchResult, slice_index_or};
-ghost use Rattle.refusal.specs.Reasons.{located};
-ghost use Rattle.refusal.specs.declared.Reason.TheVariants.{Undeclared};
+ghost use Rattle.std.specs.Prelude.{◌≡◌, ℕ, ◌||◌, List, [], map, slice_index_or};
 ghost use Rattle.words.specs.Words.{same, among};
-ghost use Rattle.language.specs.Graphs.{var_names, table_names, number_of, no_table};
-ghost use Rattle.sentences.specs.Models.{vars_of, tabs_of};
+ghost use Rattle.language.specs.Graphs.{var_names, table_names, no_table};
+ghost use Rattle.sentences.specs.Models.{vars_of, tabs_of, LooksUp, Finds};
 
 use crate::{Table, Variable};
 use language::Range;
@@ -17,6 +15,30 @@ pub struct Names {
     pub tables: Vec<Table>,
 }
 
+// What is declared under a name.
+pub trait Named {
+    ghost called: { Self → List ℕ };
+
+    fn name(&self) -> &[u8]
+        ensures { result.now ≡ called self.now };
+}
+
+impl Named for Variable {
+    ghost called = { λ v. v.name.items };
+
+    fn name(&self) -> &[u8] {
+        self.name.as_slice()
+    }
+}
+
+impl Named for Table {
+    ghost called = { λ t. t.name.items };
+
+    fn name(&self) -> &[u8] {
+        &self.name
+    }
+}
+
 // Whether two names are the same.
 pub(crate) fn same_name(a: &[u8], b: &[u8]) -> bool
     ensures { result ≡ same a.now b.now }
@@ -24,40 +46,25 @@ pub(crate) fn same_name(a: &[u8], b: &[u8]) -> bool
     a == b
 }
 
-// What is declared under a name.
-pub trait Named {
-    ghost called: { Self → List ℕ };
-
-    fn is_called(&self, name: &[u8]) -> bool
-        ensures { result ≡ same name.now (called self.now) };
-}
-
-impl Named for Variable {
-    ghost called = { λ v. v.name.items };
-
-    fn is_called(&self, name: &[u8]) -> bool {
-        same_name(name, self.name.as_slice())
-    }
-}
-
-impl Named for Table {
-    ghost called = { λ t. t.name.items };
-
-    fn is_called(&self, name: &[u8]) -> bool {
-        same_name(name, self.name.as_slice())
-    }
+// Whether this is declared under this name.
+fn is_called<T: Named>(x: &T, name: &[u8]) -> bool
+    ensures { result ≡ same name.now (T.Named.called x.now) }
+{
+    same_name(name, x.name())
 }
 
 // The number of the first that has this name.
 fn position<T: Named>(list: &[T], name: &[u8]) -> Option<usize>
-    ensures { MatchOption result (among name.now (map T.Named.called list.now) ≡ false) (λ i. (among name.now (map T.Named.called list.now) ≡ true) × (i ≡ number_of name.now (map T.Named.called list.now))) }
+    ensures { LooksUp name.now (map T.Named.called list.now) result }
 {
-    for (i, x) in list.iter().enumerate() {
-        if x.is_called(name) {
-            return Some(i);
-        }
-    }
-    None
+    list.iter().position(|x| is_called(x, name))
+}
+
+// The number of the first that has this name, which stands at this place.
+fn find<T: Named>(list: &[T], name: &[u8], place: Place) -> Result<usize, Refusal>
+    ensures { Finds name.now (map T.Named.called list.now) place result }
+{
+    position(list, name).ok_or(Refusal::at(Reason::Undeclared, place))
 }
 
 impl Names {
@@ -81,22 +88,16 @@ impl Names {
 
     // The number of the variable of this name, which stands at this place.
     pub(crate) fn variable(&self, name: &[u8], place: Place) -> Result<usize, Refusal>
-        ensures { MatchResult result (λ i. (among name.now (var_names (vars_of self.now)) ≡ true) × (i ≡ number_of name.now (var_names (vars_of self.now)))) (λ e. (among name.now (var_names (vars_of self.now)) ≡ false) × (e ≡ located Undeclared place)) }
+        ensures { Finds name.now (var_names (vars_of self.now)) place result }
     {
-        match position(self.variables.as_slice(), name) {
-            Some(i) => Ok(i),
-            None => Err(Refusal::at(Reason::Undeclared, place)),
-        }
+        find(self.variables.as_slice(), name, place)
     }
 
     // The number of the table of this name, which stands at this place.
     pub(crate) fn table(&self, name: &[u8], place: Place) -> Result<usize, Refusal>
-        ensures { MatchResult result (λ i. (among name.now (table_names (tabs_of self.now)) ≡ true) × (i ≡ number_of name.now (table_names (tabs_of self.now)))) (λ e. (among name.now (table_names (tabs_of self.now)) ≡ false) × (e ≡ located Undeclared place)) }
+        ensures { Finds name.now (table_names (tabs_of self.now)) place result }
     {
-        match position(self.tables.as_slice(), name) {
-            Some(i) => Ok(i),
-            None => Err(Refusal::at(Reason::Undeclared, place)),
-        }
+        find(self.tables.as_slice(), name, place)
     }
 
     // The size and the range of a table; 0 and 0..0 where there is none.

@@ -23,17 +23,25 @@ impl Drawing {
         }
     }
 
-    // An edge from here to a fresh point, which is here then.
-    pub(crate) fn onward(&mut self, action: Action, place: Place) -> Result<(), Refusal>
-        ensures { MatchResult result (λ _. drawn_so self.new ≡ fresh action place (drawn_so self.old)) (λ e. e ≡ no_memory) }
+    // An edge from here to a point.
+    fn edge(&mut self, target: usize, action: Action, place: Place) -> Result<(), Refusal>
+        ensures { MatchResult result (λ _. drawn_so self.new ≡ led_back action place target (drawn_so self.old)) (λ e. e ≡ no_memory) }
     {
-        let target = self.points;
         self.edges.push(Edge {
             source: self.here,
             target,
             action,
             place,
         })?;
+        Ok(())
+    }
+
+    // An edge from here to a fresh point, which is here then.
+    pub(crate) fn onward(&mut self, action: Action, place: Place) -> Result<(), Refusal>
+        ensures { MatchResult result (λ _. drawn_so self.new ≡ fresh action place (drawn_so self.old)) (λ e. e ≡ no_memory) }
+    {
+        let target = self.points;
+        self.edge(target, action, place)?;
         self.points = target + 1;
         self.here = target;
         Ok(())
@@ -43,13 +51,7 @@ impl Drawing {
     pub(crate) fn back(&mut self, target: usize, place: Place) -> Result<(), Refusal>
         ensures { MatchResult result (λ _. drawn_so self.new ≡ led_back Skip place target (drawn_so self.old)) (λ e. e ≡ no_memory) }
     {
-        self.edges.push(Edge {
-            source: self.here,
-            target,
-            action: Action::Skip,
-            place,
-        })?;
-        Ok(())
+        self.edge(target, Action::Skip, place)
     }
 
     // Goes and stands at a point.
@@ -76,11 +78,9 @@ impl Drawing {
     pub(crate) fn maker(&self, point: usize) -> Option<Place>
         ensures { result ≡ maker_of point self.now.edges.items }
     {
-        for edge in self.edges.iter() {
-            if edge.target == point {
-                return Some(edge.place);
-            }
-        }
-        None
+        self.edges
+            .iter()
+            .find(|edge| edge.target == point)
+            .map(|edge| edge.place)
     }
 }

@@ -1,39 +1,29 @@
-use Rattle.std.proofs.Common.{◌+◌, eqb, get_or, drop, Some, sym, refl, ap, ◌∙◌}
-use Rattle.std.proofs.lemmas.List.{drop_more, drop_all}
-use Rattle.std.proofs.lemmas.Bool.{cond-true, cond-false, eq-eqb, ne_eqb}
+use Rattle.std.proofs.Common.{◌≡◌, ℕ, Bool, true, false, List, [], ◌∷◌, Some, None, Option, Bor, rules, eqb, refl, ap, ◌∙◌}
+use Rattle.std.specs.Option.{option_map}
+use Rattle.std.specs.List.{find}
+use Rattle.std.proofs.lemmas.Iterator.{YieldsList-from_slice}
+use Rattle.std.proofs.lemmas.Iterator.Search.{find_from_yields_List}
+use borrow.Author.Tests.{tests}
+use Rattle.refusal.specs.declared.Place.{Place}
 use Rattle.language.specs.Graphs.{maker}
 use Rattle.language.specs.declared.Edge.{Edge}
-use Rattle.language.specs.declared.Action.TheVariants.{Skip}
 use Rattle.sentences.proofs.drawing.Drawing.maker.Goals as goal
 
--- the default element of the slice
-abbrev nowhere : Edge
-nowhere = record { source = 0; target = 0; action = Skip; place = record { line = 0; column = 0 } }
+placed : (q : ℕ) (es : List Edge) → option_map (λ (e : Edge). e.place) (find (λ (e : Edge). eqb e.target q) es) ≡ maker q es
+placed q [] = refl
+placed q (e ∷ es) = either (eqb e.target q) _ _ (placed q es)
+  where
+    either : (b : Bool) (m : Option Place) (r : Option Edge) → option_map (λ (e : Edge). e.place) r ≡ m →
+        option_map (λ (e : Edge). e.place) (mathlib.Core.Bool.cond b (Some e) r) ≡ mathlib.Core.Bool.cond b (Some e.place) m
+    either true m r h = refl
+    either false m r h = h
 
-pub loop-edge-init : goal.loop-edge-init
-loop-edge-init c = refl
-
-pub returns-then-edge-point : goal.returns-then-edge-point
-returns-then-edge-point c =
-    let es = c.deref-edge-items.result.now in
-    let i = c.loop-edge.edge-index in
-    let q = c.args.point in
-    let e = get_or es i nowhere in
-    sym (ap (maker q) (sym c.deref-edge-items.ensures.value) ∙ sym c.loop-edge.invariant ∙ ap (maker q) (drop_more es i nowhere c.loop-edge-test.true) ∙
-    cond-true (eqb e.target q) (Some e.place) (maker q (drop (i + 1) es)) (eq-eqb e.target q c.if-edge-point.true))
-
-pub loop-edge-preserved : goal.loop-edge-preserved
-loop-edge-preserved c =
-    let es = c.deref-edge-items.result.now in
-    let i = c.loop-edge.edge-index in
-    let q = c.args.point in
-    let e = get_or es i nowhere in
-    sym (ap (maker q) (drop_more es i nowhere c.loop-edge-test.true) ∙
-    cond-false (eqb e.target q) (Some e.place) (maker q (drop (i + 1) es)) (ne_eqb e.target q c.if-edge-point.false)) ∙ c.loop-edge.invariant
+twice : (r : Option (Bor Edge)) → option_map (λ (e : Bor Edge). e.now.place) r ≡ option_map (λ (e : Edge). e.place) (option_map (λ (e : Bor Edge). e.now) r)
+twice None = refl
+twice (Some e) = refl
 
 pub returns : goal.returns
 returns c =
-    let es = c.deref-edge-items.result.now in
-    let i = c.loop-edge.edge-index in
-    let q = c.args.point in
-    sym (ap (maker q) (sym c.deref-edge-items.ensures.value) ∙ sym c.loop-edge.invariant ∙ ap (maker q) (drop_all i es c.loop-edge-test.false))
+    let k = find_from_yields_List (λ (e : Edge). eqb e.target c.args.point) _ _ c.find.result c.find.ensures.ran (YieldsList-from_slice _ c.iter.ensures.rest) (λ x b q k. search (rules, tests)) in
+    let m : c.map.result ≡ option_map (λ (e : Bor Edge). e.now.place) c.find.result = search rules in
+    m ∙ twice c.find.result ∙ ap (option_map (λ (e : Edge). e.place)) k ∙ placed c.args.point _ ∙ ap (maker c.args.point) c.deref.ensures.value

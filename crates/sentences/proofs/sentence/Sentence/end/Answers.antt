@@ -1,7 +1,5 @@
-use Rattle.sentences.specs.Models.{left}
-use Rattle.sentences.proofs.Sentences.{no_end}
+use Rattle.sentences.proofs.Sentences.{all_read}
 use Rattle.sentences.proofs.sentence.Sentence.end.Goals as goal
 
-pub returns-in_default : goal.returns-in_default
-returns-in_default c =
-    no_end c.take.result (left c.args.self.now) (left c.take.new.self) _ c.take.ensures c.unexpected.ensures c.in_default.not-End
+pub returns-in-None-default : goal.returns-in-None-default
+returns-in-None-default c = all_read c.args.self.now c.in_ok-self.field-0.0 c.in_ok-self.field-0.1 c.in_ok-self.was c.in-None-default.is-0

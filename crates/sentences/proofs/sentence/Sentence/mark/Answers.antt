@@ -1,18 +1,20 @@
-use Rattle.std.proofs.Common.{[], ◌∷◌, sym}
-use Rattle.words.specs.declared.Found.TheVariants.{Sign}
-use Rattle.language.specs.Expected.{one}
+use Rattle.std.proofs.Common.{rules}
+use Rattle.language.specs.Expected.Terminal.{the}
 use Rattle.sentences.specs.Models.{left}
-use Rattle.sentences.proofs.Sentences.{turned, no_mark, other_mark}
+use Rattle.sentences.proofs.Exits.{handed_on}
+use Rattle.sentences.proofs.Sentences.{at_word, no_sign}
 use Rattle.sentences.proofs.sentence.Sentence.mark.Goals as goal
+use Rattle.sentences.proofs.sentence.Sentence.mark.Goals.{in_default-via-in-Sign+else-eq, in_default-via-in_default}
 
-pub returns-else-same_mark : goal.returns-else-same_mark
-returns-else-same_mark c =
-    let m₂ = c.in-Sign.present in
-    let p = c.in-Sign.place in
-    turned (one c.args.mark ∷ []) (Sign m₂ p) (left c.args.self.now) (left c.take.new.self) _ c.in-Sign.ensures c.at.ensures
-    (other_mark c.args.mark m₂ p (left c.take.new.self) (sym c.if-same_mark.ensures))
+pub returns-in_err-word : goal.returns-in_err-word
+returns-in_err-word c = handed_on _ _ c.from_residual.result _ c.from_residual.ensures.1 (c.in_err-word.ensures (the c.args.mark))
 
 pub returns-in_default : goal.returns-in_default
 returns-in_default c =
-    turned (one c.args.mark ∷ []) c.take.result (left c.args.self.now) (left c.take.new.self) _ c.take.ensures c.unexpected.ensures
-    (no_mark c.args.mark c.take.result (left c.take.new.self) c.in_default.not-Sign)
+    at_word (the c.args.mark) c.in_ok-word.word c.in_ok-word.place (left c.args.self.now) (left c.word.new.self) c.at.result c.in_ok-word.ensures c.at.ensures
+    (
+    elim c.in_default.branch [
+      | in_default-via-in-Sign+else-eq w ↦ search rules
+      | in_default-via-in_default w ↦ no_sign c.args.mark c.in_ok-word.word c.in_ok-word.place w.in_default.not-Sign
+    ]
+    )

@@ -1,0 +1,43 @@
+use Rattle.std.proofs.Common.{◌∷◌, [], ◌++◌, vec_items, ap, ◌∙◌}
+use Rattle.language.specs.Expected.Expect.{just}
+use Rattle.language.specs.Expected.Terminal.{any_name}
+use Rattle.language.proofs.Turning.{turns}
+use Rattle.language.proofs.Heads.{refuses_variable_name, declares_variable}
+use Rattle.sentences.specs.Models.{vars_of, tabs_of, variable_of, ending}
+use Rattle.sentences.specs.declared.names.Names.{Names}
+use Rattle.sentences.specs.declared.Variable.{Variable}
+use Rattle.sentences.proofs.Exits.{handed_on}
+use Rattle.sentences.proofs.Naming.{counted, more_variables}
+use Rattle.sentences.proofs.Declaring.{refuses_variable_ending}
+use Rattle.sentences.proofs.script.Script.read_variable.Goals as goal
+
+pub returns-in_err-mark : goal.returns-in_err-mark
+returns-in_err-mark c =
+    handed_on _ _ c.from_residual.result _ c.from_residual.ensures.1
+    (turns (λ h k past y. h (just any_name ∷ (ending ++ k)) past tt) c.in_err-mark.ensures)
+
+pub returns-in_err-name : goal.returns-in_err-name
+returns-in_err-name c =
+    let n = c.args.self.now.names in
+    handed_on _ _ c.from_residual-in_err-name.result _ c.from_residual-in_err-name.ensures.1
+    (turns (refuses_variable_name (vars_of n) (tabs_of n) c.in_ok-mark.ensures _ (counted variable_of (vec_items n.variables) c.len-count.result (c.len-count.ensures ∙ n.variables.ok.0)) _)
+    c.in_err-name.ensures)
+
+pub returns-in_err-range : goal.returns-in_err-range
+returns-in_err-range c =
+    let n = c.args.self.now.names in
+    let w = c.in_ok-name.ensures in
+    let i = counted variable_of (vec_items n.variables) c.len-count.result (c.len-count.ensures ∙ n.variables.ok.0) ∙ w.3 in
+    handed_on _ _ c.from_residual-in_err-range.result _ c.from_residual-in_err-range.ensures.1
+    (turns (refuses_variable_ending (vars_of n) (tabs_of n) c.in_ok-mark.ensures w.1 w.2 i _) c.in_err-range.ensures)
+
+pub returns : goal.returns
+returns c =
+    let n = c.args.self.now.names in
+    let w = c.in_ok-name.ensures in
+    let x = c.in_ok-range.ensures in
+    let i = counted variable_of (vec_items n.variables) c.len-count.result (c.len-count.ensures ∙ n.variables.ok.0) ∙ w.3 in
+    let v : Variable = record { name = c.in_ok-name-2.name; range = c.in_ok-range.range } in
+    declares_variable (vars_of n) (tabs_of n) c.in_ok-mark.ensures w.1 w.2 i x.opens x.range _ _ x.closes _
+    (more_variables (vec_items n.variables) (vec_items c.push.new.self) v c.in_ok-name.name.now
+    (c.in_ok-push.ensures.items ∙ ap (λ (m : Names). vec_items m.variables ++ (v ∷ [])) w.4) c.in_ok-name-2.ensures.items) _ (ap tabs_of w.4)
