@@ -1,5 +1,6 @@
 -- Each step from word to word: parts join to the text, gaps are blanks and comments, parts are longest.
-use Rattle.std.proofs.Common.{◌≡◌, ℕ, ◌≤◌, Bool, true, false, cond, not, ◌||◌, eqb, List, [], ◌∷◌, ◌++◌, length, drop, Some, None, Option, sym, refl, ap, ◌∙◌, subst, inl, inr, arith}
+use Rattle.std.proofs.Common.{◌≡◌, ℕ, ◌≤◌, Bool, true, false, cond, not, ◌||◌, eqb, List, [], ◌∷◌, ◌++◌, length, take, drop, Some, None, Option, sym, refl, ap, ◌∙◌, subst, inl, inr, arith, length-append}
+use Rattle.std.proofs.Math.Seq.{take-append_seam}
 use Rattle.std.proofs.lemmas.Bool.{eqb-true, and_parts, false≢true, cond_both}
 use Rattle.words.specs.Words.{Spelling, Part, blank, letter, digit, inner, skipped, commenting, gap, run, behind, onward, begins, symbols, symbol_in, symbol_part, part}
 use Rattle.words.specs.Parts.{Gap, Stops, Member, Longest, taken, StepsWell}
@@ -16,13 +17,20 @@ gap_front c (b ∷ bs) = go (skipped c b) (gap_front (commenting c b) bs)
     go true ih = ap (λ (z : List ℕ). b ∷ z) ih
     go false ih = refl
 
-run_front : (f : ℕ → Bool) (bs : List ℕ) → run f bs ++ drop (length (run f bs)) bs ≡ bs
+pub run_front : (f : ℕ → Bool) (bs : List ℕ) → run f bs ++ drop (length (run f bs)) bs ≡ bs
 run_front f [] = refl
 run_front f (b ∷ bs) = go (f b) (run_front f bs)
   where
     go : (t : Bool) → run f bs ++ drop (length (run f bs)) bs ≡ bs → cond t (b ∷ run f bs) [] ++ drop (length (cond t (b ∷ run f bs) [])) (b ∷ bs) ≡ b ∷ bs
     go true ih = ap (λ (z : List ℕ). b ∷ z) ih
     go false ih = refl
+
+-- the bytes that a list begins with are no more than it has, and are its first
+pub front_short : (xs bs : List ℕ) → xs ++ drop (length xs) bs ≡ bs → length xs ≤ length bs
+front_short xs bs e = let h = ap length e in let k = length-append xs (drop (length xs) bs) in omega arith
+
+pub front_take : (xs bs : List ℕ) → xs ++ drop (length xs) bs ≡ bs → take (length xs) bs ≡ xs
+front_take xs bs e = ap (take (length xs)) (sym e) ∙ take-append_seam xs (drop (length xs) bs)
 
 run_stops : (f : ℕ → Bool) (bs : List ℕ) → Stops f (drop (length (run f bs)) bs)
 run_stops f [] = tt
@@ -160,6 +168,13 @@ nonempty (x ∷ l) h bs s e = go (begins x.bytes bs) e (nonempty l h.2 bs s)
     go false q ih = ih q
 
 -- a symbol's part, or one byte
+pub symbol_takes : (b : ℕ) (bs : List ℕ) (p : Place) → 1 ≤ length (symbol_part (symbol_in symbols (b ∷ bs)) b p).bytes
+symbol_takes b bs p = go (symbol_in symbols (b ∷ bs)) refl
+  where
+    go : (o : Option Spelling) → symbol_in symbols (b ∷ bs) ≡ o → 1 ≤ length (symbol_part o b p).bytes
+    go (Some s) e = nonempty symbols symbols_short (b ∷ bs) s e
+    go None e = omega arith
+
 symbol_joined : (b : ℕ) (bs : List ℕ) (p : Place) (o : Option Spelling) → Fit symbols (b ∷ bs) o →
     (symbol_part o b p).bytes ++ drop (length (symbol_part o b p).bytes) (b ∷ bs) ≡ b ∷ bs
 unfolding Fit

@@ -1,6 +1,7 @@
 -- Marks of one number are equal, and a missing answer is none that is there.
-use Rattle.std.proofs.Common.{◌≡◌, ℕ, true, eqb, [], ◌∷◌, get_or, Some, None, sym, refl, ap, ◌∙◌, arith}
+use Rattle.std.proofs.Common.{◌≡◌, ℕ, true, eqb, [], ◌∷◌, get_or, Some, None, sym, refl, ap, ◌∙◌}
 use Rattle.std.proofs.lemmas.Bool.{eqb-true}
+use Rattle.std.proofs.lemmas.Option.{none-some}
 use Rattle.words.specs.Marks.{code}
 use Rattle.words.specs.declared.Mark.{Mark}
 use Rattle.words.specs.declared.Mark.TheVariants.{Becomes, Dots, LessEqual, GreaterEqual, Less, Greater, Equals, Plus, Minus, OpenBrace, CloseBrace, OpenBracket, CloseBracket, Semicolon, Var, Table, If, Else, While, Hear, Sense}
@@ -37,4 +38,4 @@ pub mark_same : (m n : Mark) → eqb (code m) (code n) ≡ true → m ≡ n
 mark_same m n e = sym (decode_code m) ∙ ap decode (eqb-true (code m) (code n) e) ∙ decode_code n
 
 pub no_some : {A : Type 0} {x : A} {P : Type 0} → None ≡ Some x → P
-no_some {A} {x} e = let z : ◌≡◌ {A = ℕ} 0 1 = cc in absurd (omega arith)
+no_some {A} {x} e = absurd (none-some x e)

@@ -1,13 +1,14 @@
 -- What the word reader answers.
-use Rattle.std.specs.Prelude.{◌≡◌, ℕ, ◌+◌, ◌^◌, ◌≤◌, List, length, Some, None, Option}
-use Rattle.std.specs.Option.{option_map}
-use Rattle.words.specs.Words.{Spelling, Next, Text, symbol_in, part, next, text_at}
+use Rattle.std.specs.Prelude.{◌≡◌, ℕ, ◌+◌, ◌^◌, ◌≤◌, List, length, Some, None, Option, Ok, Err, Result, cond, nat_le}
+use Rattle.words.specs.Words.{Word as Read, Spelling, Next, Text, part, next, text_at}
 use Rattle.words.specs.Words.Text.{ends, fails, reads}
 use Rattle.words.specs.Words.Word.{name, number, mark}
 use Rattle.words.specs.Words.Next.{word, fault, end}
-use Rattle.words.specs.declared.Found.{Found}
-use Rattle.words.specs.declared.Found.TheVariants.{Name, Number, Sign, Fault, End}
+use Rattle.words.specs.declared.Word.{Word}
+use Rattle.words.specs.declared.Word.TheVariants.{Name, Number, Sign}
+use Rattle.words.specs.declared.Fault.{Fault}
 use Rattle.refusal.specs.declared.Place.{Place}
+use Rattle.refusal.specs.declared.Reason.{Reason}
 use Rattle.refusal.specs.Reasons.{number_of}
 use Rattle.words.specs.declared.reader.WordReader.{WordReader}
 use Rattle.words.specs.declared.Mark.{Mark}
@@ -16,31 +17,44 @@ use Rattle.words.specs.declared.Mark.{Mark}
 abbrev pub Room : Place → ℕ → Type 0
 Room p n = (p.line + n ≤ 2 ^ 63) × (p.column + n ≤ 2 ^ 63)
 
--- the mark of the first spelling that the bytes begin with
-abbrev pub marked : List Spelling → List ℕ → Option Mark
-marked l bs = option_map (λ (s : Spelling). s.mark) (symbol_in l bs)
-
 -- a symbol as its length and its mark
 abbrev pub sized : Option Spelling → Option (ℕ × Mark)
 sized (Some s) = Some (length s.bytes, s.mark)
 sized None = None
 
--- what is found, as what comes next
-abbrev pub as_next : Found → Next
-as_next (Name bs p) = word (name bs.now p)
-as_next (Number n p) = word (number n p)
-as_next (Sign m p) = word (mark m p)
-as_next (Fault r p) = fault (number_of r) p
-as_next (End p) = end p
+-- a number, if it is at most the first
+abbrev pub within : ℕ → ℕ → Option ℕ
+within most n = cond (nat_le n most) (Some n) None
+
+-- a word found at a place, as a word of the text
+abbrev pub as_word : Word → Place → Read
+as_word (Name bs) p = name bs.now p
+as_word (Number n) p = number n p
+as_word (Sign m) p = mark m p
+
+-- the same as what comes next, or the reason why no word stands there
+abbrev pub word_at : Place → Result Word Reason → Next
+word_at p (Ok w) = word (as_word w p)
+word_at p (Err r) = fault (number_of r) p
+
+-- the same, or the end
+abbrev pub found_at : Place → Result (Option Word) Reason → Next
+found_at p (Ok (Some w)) = word_at p (Ok w)
+found_at p (Ok None) = end p
+found_at p (Err r) = word_at p (Err r)
+
+-- what the reader answers, as what comes next
+abbrev pub as_next : Result (Option Word × Place) Fault → Next
+as_next (Ok (w, p)) = found_at p (Ok w)
+as_next (Err f) = found_at f.place (Err f.reason)
 
 -- a part found at the front of bytes: what it is, and its length
-pub record Finds (bs : List ℕ) (p : Place) (r : Found) (n : ℕ) : Type 0 where
-  pub found : as_next r ≡ (part bs p).next
+pub record Finds (bs : List ℕ) (p : Place) (r : Result (Option Word) Reason) (n : ℕ) : Type 0 where
+  pub found : found_at p r ≡ (part bs p).next
   pub length_is : n ≡ length (part bs p).bytes
-  pub within : n ≤ length bs
 
 -- one step of the reader from the bytes and the place at entry to those at exit
-pub record Goes (bs : List ℕ) (p : Place) (r : Found) (rest : List ℕ) (at : Place) : Type 0 where
+pub record Goes (bs : List ℕ) (p : Place) (r : Result (Option Word × Place) Fault) (rest : List ℕ) (at : Place) : Type 0 where
   pub found : as_next r ≡ (next bs p).next
   pub rest_is : rest ≡ (next bs p).rest
   pub at_is : at ≡ (next bs p).at

@@ -1,21 +1,24 @@
 // What stands at the front of some bytes: blanks and comments, names, numbers, symbols.
-ghost use Rattle.std.specs.Prelude.{◌≡◌, ℕ, ◌<◌, ◌≤◌, false, List, ◌∷◌, length};
-ghost use Rattle.words.specs.Words.{letter, digit, inner, skipped, commenting, gap, run, behind, value, reserved, reserved_in, pairs, singles, symbols, symbol_in};
-ghost use Rattle.words.specs.Reader.{Room, marked, sized};
+ghost use Rattle.std.specs.Prelude.{◌≡◌, ℕ, ◌≤◌, Bool, false, length};
+ghost use Rattle.words.specs.Words.{letter, digit, inner, skipped, commenting, gap, run, onward, behind, value, reserved, reserved_in, symbols, symbol_in};
+ghost use Rattle.words.specs.Reader.{Room, sized, within};
 
 use crate::Mark;
 use refusal::Place;
 
+// A number is at most this.
+const MOST_NUMBER: u32 = 2147483647;
+
 pub(crate) fn is_letter(b: u8) -> bool
     ensures { result ≡ letter b }
 {
-    b >= b'a' && b <= b'z'
+    b.is_ascii_lowercase()
 }
 
 pub(crate) fn is_digit(b: u8) -> bool
     ensures { result ≡ digit b }
 {
-    b >= b'0' && b <= b'9'
+    b.is_ascii_digit()
 }
 
 pub(crate) fn is_inner(b: u8) -> bool
@@ -27,7 +30,7 @@ pub(crate) fn is_inner(b: u8) -> bool
 pub(crate) fn is_skipped(comment: bool, b: u8) -> bool
     ensures { result ≡ skipped comment b }
 {
-    comment || b == b' ' || b == b'\t' || b == b'\r' || b == b'\n' || b == b'#'
+    comment || matches!(b, b' ' | b'\t' | b'\r' | b'\n' | b'#')
 }
 
 pub(crate) fn is_commenting(comment: bool, b: u8) -> bool
@@ -40,66 +43,68 @@ pub(crate) fn is_commenting(comment: bool, b: u8) -> bool
 pub(crate) fn gap_length(bytes: &[u8]) -> usize
     ensures { (result ≡ length (gap false bytes.now)) × (result ≤ length bytes.now) }
 {
-    let mut n = 0;
     let mut comment = false;
-    while n < bytes.len() && is_skipped(comment, bytes[n]) {
-        comment = is_commenting(comment, bytes[n]);
-        n += 1;
+    for (n, b) in bytes.iter().enumerate() {
+        if !is_skipped(comment, *b) {
+            return n;
+        }
+        comment = is_commenting(comment, *b);
     }
-    n
+    bytes.len()
 }
 
-// How many bytes of a name stand at the front.
-pub(crate) fn inner_length(bytes: &[u8]) -> usize
-    ensures { result ≡ length (run inner bytes.now) }
+// The longest beginning whose bytes all pass the test.
+pub(crate) fn front<F: Fn(u8) -> bool>(bytes: &[u8], test: F) -> &[u8]
+    requires { F.IsAlwaysCallable test }
+    ensures { (f : ℕ → Bool) → ((b : ℕ) (r : Bool) → F.post test b r → r ≡ f b) → result.now ≡ run f bytes.now }
 {
-    let mut n = 0;
-    while n < bytes.len() && is_inner(bytes[n]) {
-        n += 1;
+    for (n, b) in bytes.iter().enumerate() {
+        if !test(*b) {
+            return &bytes[..n];
+        }
     }
-    n
+    bytes
 }
 
-// How many digits stand at the front.
-pub(crate) fn digits_length(bytes: &[u8]) -> usize
-    ensures { result ≡ length (run digit bytes.now) }
+// The place one byte on.
+fn onward_from(place: Place, b: u8) -> Place
+    ensures { Room place 1 → result ≡ onward b place }
 {
-    let mut n = 0;
-    while n < bytes.len() && is_digit(bytes[n]) {
-        n += 1;
+    if b == b'\n' {
+        Place {
+            line: place.line.saturating_add(1),
+            column: 1,
+        }
+    } else {
+        Place {
+            line: place.line,
+            column: place.column.saturating_add(1),
+        }
     }
-    n
 }
 
 // The place behind some bytes.
 pub(crate) fn place_behind(place: Place, bytes: &[u8]) -> Place
     ensures { Room place (length bytes.now) → result ≡ behind bytes.now place }
 {
-    let mut line = place.line;
-    let mut column = place.column;
+    let mut at = place;
     for b in bytes {
-        if *b == b'\n' {
-            line = line.saturating_add(1);
-            column = 1;
-        } else {
-            column = column.saturating_add(1);
-        }
+        at = onward_from(at, *b);
     }
-    Place { line, column }
+    at
 }
 
-// The value of digits; where it is over 2147483647, some number over that.
-pub(crate) fn number_of(digits: &[u8]) -> u64
-    ensures fits { result ≤ 2147483647 → result ≡ value 0 digits.now }
-    ensures over { 2147483647 < result → 2147483647 < value 0 digits.now }
+// The value of digits, if it is at most MOST_NUMBER.
+pub(crate) fn number_of(digits: &[u8]) -> Option<u32>
+    ensures { result ≡ within 2147483647 (value 0 digits.now) }
 {
-    let mut n: u64 = 0;
+    let mut n: u32 = 0;
     for d in digits {
-        if n <= 2147483647 {
-            n = n * 10 + u64::from(d.saturating_sub(48));
-        }
+        n = n
+            .checked_mul(10)?
+            .checked_add(u32::from(d.saturating_sub(b'0')))?;
     }
-    n
+    (n <= MOST_NUMBER).then_some(n)
 }
 
 // The reserved word of this spelling.
@@ -118,52 +123,25 @@ pub(crate) fn reserved_word(bytes: &[u8]) -> Option<Mark>
     }
 }
 
-// The symbol of these two bytes.
-fn pair(a: u8, b: u8) -> Option<Mark>
-    ensures { (rest : List ℕ) → result ≡ marked pairs (a ∷ b ∷ rest) }
-{
-    match (a, b) {
-        (b':', b'=') => Some(Mark::Becomes),
-        (b'.', b'.') => Some(Mark::Dots),
-        (b'<', b'=') => Some(Mark::LessEqual),
-        (b'>', b'=') => Some(Mark::GreaterEqual),
-        _ => None,
-    }
-}
-
-// The symbol of this byte.
-fn single(b: u8) -> Option<Mark>
-    ensures { (rest : List ℕ) → result ≡ marked singles (b ∷ rest) }
-{
-    match b {
-        b'<' => Some(Mark::Less),
-        b'>' => Some(Mark::Greater),
-        b'=' => Some(Mark::Equals),
-        b'+' => Some(Mark::Plus),
-        b'-' => Some(Mark::Minus),
-        b'{' => Some(Mark::OpenBrace),
-        b'}' => Some(Mark::CloseBrace),
-        b'[' => Some(Mark::OpenBracket),
-        b']' => Some(Mark::CloseBracket),
-        b';' => Some(Mark::Semicolon),
-        _ => None,
-    }
-}
-
 // The longest symbol at the front, with its length.
 pub(crate) fn symbol_at(bytes: &[u8]) -> Option<(usize, Mark)>
     ensures { result ≡ sized (symbol_in symbols bytes.now) }
 {
-    if bytes.is_empty() {
-        return None;
-    }
-    if bytes.len() > 1 {
-        if let Some(mark) = pair(bytes[0], bytes[1]) {
-            return Some((2, mark));
-        }
-    }
-    match single(bytes[0]) {
-        Some(mark) => Some((1, mark)),
-        None => None,
+    match bytes {
+        [b':', b'=', ..] => Some((2, Mark::Becomes)),
+        [b'.', b'.', ..] => Some((2, Mark::Dots)),
+        [b'<', b'=', ..] => Some((2, Mark::LessEqual)),
+        [b'>', b'=', ..] => Some((2, Mark::GreaterEqual)),
+        [b'<', ..] => Some((1, Mark::Less)),
+        [b'>', ..] => Some((1, Mark::Greater)),
+        [b'=', ..] => Some((1, Mark::Equals)),
+        [b'+', ..] => Some((1, Mark::Plus)),
+        [b'-', ..] => Some((1, Mark::Minus)),
+        [b'{', ..] => Some((1, Mark::OpenBrace)),
+        [b'}', ..] => Some((1, Mark::CloseBrace)),
+        [b'[', ..] => Some((1, Mark::OpenBracket)),
+        [b']', ..] => Some((1, Mark::CloseBracket)),
+        [b';', ..] => Some((1, Mark::Semicolon)),
+        _ => None,
     }
 }

@@ -1,13 +1,16 @@
 // The words of a script: parts of the lent bytes, each with the line and column where it begins.
 #![tactic(auto)]
 
-use refusal::{Place, Reason};
+ghost use Rattle.std.specs.Prelude.{◌≡◌};
+ghost use Rattle.refusal.specs.Reasons.{located};
+
+use refusal::{Place, Reason, Refusal};
 
 mod bytes;
 pub mod reader;
 
 // the words of one spelling: fourteen symbols, then seven reserved words
-#[derive(Clone, Copy)]
+#[derive(Clone, Copy, PartialEq, Eq, Debug)]
 pub enum Mark {
     Becomes,
     Dots,
@@ -32,12 +35,25 @@ pub enum Mark {
     Sense,
 }
 
-// What comes next in a script: a word, a word in fault, or the end, each with its place.
+// A word of a script; a name is the part of the bytes that spells it.
+#[derive(Clone, Copy, PartialEq, Eq, Debug)]
+pub enum Word<'a> {
+    Name(&'a [u8]),
+    Number(u32),
+    Sign(Mark),
+}
+
+// Why no word stands in a script, and where it would begin.
 #[derive(Clone, Copy)]
-pub enum Found<'a> {
-    Name(&'a [u8], Place),
-    Number(u32, Place),
-    Sign(Mark, Place),
-    Fault(Reason, Place),
-    End(Place),
+pub struct Fault {
+    pub reason: Reason,
+    pub place: Place,
+}
+
+impl From<Fault> for Refusal {
+    ghost from_gives = { λ f r. r ≡ located f.reason f.place };
+
+    fn from(fault: Fault) -> Refusal {
+        Refusal::at(fault.reason, fault.place)
+    }
 }

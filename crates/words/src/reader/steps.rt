@@ -1,58 +1,74 @@
 // The next word of a script, with its place.
-ghost use Rattle.std.specs.Prelude.{◌≡◌, ℕ};
+ghost use Rattle.std.specs.Prelude.{◌≡◌, ◌≤◌, length};
+ghost use Rattle.refusal.specs.declared.Place.{Place};
 ghost use Rattle.words.specs.Words.{letters_next, digits_next, text};
-ghost use Rattle.words.specs.Reader.{as_next, Finds, Goes, ahead, leads};
+ghost use Rattle.words.specs.Reader.{word_at, found_at, as_next, Finds, Goes, ahead, leads};
 ghost use Rattle.words.specs.Parts.{WordsStand};
 
-use crate::Found;
 use crate::bytes::{
-    digits_length, gap_length, inner_length, is_digit, is_letter, number_of, place_behind,
-    reserved_word, symbol_at,
+    front, gap_length, is_digit, is_inner, is_letter, number_of, place_behind, reserved_word,
+    symbol_at,
 };
 use crate::reader::WordReader;
+use crate::{Fault, Word};
 use refusal::{Place, Reason};
 
-fn letters<'a>(bytes: &'a [u8], place: Place) -> Found<'a>
-    ensures { as_next result ≡ letters_next bytes.now place }
+// A name has at most this many bytes.
+const LONGEST_NAME: usize = 16;
+
+fn letters(bytes: &[u8]) -> Result<Word<'_>, Reason>
+    ensures { (p : Place) → word_at p result ≡ letters_next bytes.now p }
 {
-    if bytes.len() > 16 {
-        return Found::Fault(Reason::NameTooLong, place);
+    if bytes.len() > LONGEST_NAME {
+        return Err(Reason::NameTooLong);
     }
-    match reserved_word(bytes) {
-        Some(m) => Found::Sign(m, place),
-        None => Found::Name(bytes, place),
-    }
+    Ok(match reserved_word(bytes) {
+        Some(mark) => Word::Sign(mark),
+        None => Word::Name(bytes),
+    })
 }
 
-fn digits<'a>(bytes: &'a [u8], place: Place) -> Found<'a>
-    ensures { as_next result ≡ digits_next bytes.now place }
+fn digits(bytes: &[u8]) -> Result<Word<'_>, Reason>
+    ensures { (p : Place) → word_at p result ≡ digits_next bytes.now p }
 {
-    let n = number_of(bytes);
-    if n > 2147483647 {
-        Found::Fault(Reason::NumberTooLarge, place)
-    } else {
-        Found::Number(n as u32, place)
+    match number_of(bytes) {
+        Some(n) => Ok(Word::Number(n)),
+        None => Err(Reason::NumberTooLarge),
     }
 }
 
 // The part at the front of bytes that begin with no blank and no comment, and its length.
-fn part_of<'a>(text: &'a [u8], place: Place) -> (Found<'a>, usize)
-    ensures { Finds text.now place result.0 result.1 }
+fn part_of(text: &[u8]) -> (Result<Option<Word<'_>>, Reason>, usize)
+    ensures finds { (p : Place) → Finds text.now p result.0 result.1 }
+    ensures within { result.1 ≤ length text.now }
 {
-    if text.is_empty() {
-        return (Found::End(place), 0);
+    let Some(first) = text.first() else {
+        return (Ok(None), 0);
+    };
+    if is_letter(*first) {
+        let name = front(text, is_inner);
+        return (letters(name).map(Some), name.len());
     }
-    if is_letter(text[0]) {
-        let n = inner_length(text);
-        return (letters(&text[..n], place), n);
-    }
-    if is_digit(text[0]) {
-        let n = digits_length(text);
-        return (digits(&text[..n], place), n);
+    if is_digit(*first) {
+        let number = front(text, is_digit);
+        return (digits(number).map(Some), number.len());
     }
     match symbol_at(text) {
-        Some((n, m)) => (Found::Sign(m, place), n),
-        None => (Found::Fault(Reason::NoWord, place), 1),
+        Some((n, mark)) => (Ok(Some(Word::Sign(mark))), n),
+        None => (Err(Reason::NoWord), 1),
+    }
+}
+
+// What is found, with its place.
+fn placed<'a>(
+    found: Result<Option<Word<'a>>, Reason>,
+    place: Place,
+) -> Result<(Option<Word<'a>>, Place), Fault>
+    ensures { as_next result ≡ found_at place found.entry }
+{
+    match found {
+        Ok(word) => Ok((word, place)),
+        Err(reason) => Err(Fault { reason, place }),
     }
 }
 
@@ -67,8 +83,8 @@ impl<'a> WordReader<'a> {
         }
     }
 
-    // The next word, with its place; the reader goes on behind it.
-    pub fn next(&mut self) -> Found<'a>
+    // The next word, or None at the end, with its place; the reader goes on behind it.
+    pub fn next(&mut self) -> Result<(Option<Word<'a>>, Place), Fault>
         ensures goes { Goes self.old.rest.now self.old.place result self.new.rest.now self.new.place }
         ensures words { ahead self.old ≡ leads (as_next result) (ahead self.new) }
         ensures laws { WordsStand }
@@ -76,10 +92,11 @@ impl<'a> WordReader<'a> {
         let skipped = gap_length(self.rest);
         let place = place_behind(self.place, &self.rest[..skipped]);
         let text = &self.rest[skipped..];
-        let (found, n) = part_of(text, place);
+        let (found, n) = part_of(text);
+        let answer = placed(found, place);
         let behind = place_behind(place, &text[..n]);
         self.rest = &text[n..];
         self.place = behind;
-        found
+        answer
     }
 }

@@ -1,9 +1,6 @@
-use Rattle.std.proofs.Common.{◌≡◌, ◌+◌, ◌-◌, ◌≤◌, false, length, drop}
+use Rattle.std.proofs.Common.{◌≡◌, ◌+◌, false, length, drop}
 use Rattle.words.specs.Words.{gap}
 use Rattle.words.proofs.bytes.gap_length.Given as goal
 
 abbrev pub invariant-loop-n : goal.invariant-loop-n
-invariant-loop-n l = (l.n ≤ length l.bytes) × (l.n + length (gap l.comment (drop l.n l.bytes)) ≡ length (gap false l.bytes))
-
-abbrev pub decreases-loop-n : goal.decreases-loop-n
-decreases-loop-n l = length l.bytes - l.n
+invariant-loop-n l = l.n + length (gap l.comment (drop l.n l.bytes)) ≡ length (gap false l.bytes)

@@ -1,8 +1,6 @@
-use Rattle.std.proofs.Common.{◌≡◌, ◌<◌, ◌≤◌, drop}
+use Rattle.std.proofs.Common.{◌≡◌, drop}
 use Rattle.words.specs.Words.{value}
 use Rattle.words.proofs.bytes.number_of.Given as goal
 
 abbrev pub invariant-loop-d : goal.invariant-loop-d
-invariant-loop-d l =
-    (l.n ≤ 2147483647 → value 0 l.digits ≡ value l.n (drop l.d-index l.digits)) ×
-    (2147483647 < l.n → 2147483647 < value 0 l.digits) × (l.n < 30000000000)
+invariant-loop-d l = value 0 l.digits ≡ value l.n (drop l.d-index l.digits)

@@ -1,29 +1,32 @@
-use Rattle.std.proofs.Common.{◌<◌, length, sym, arith, length-take, false-eqb}
+use Rattle.std.proofs.Common.{sym, ◌∙◌}
 use Rattle.words.specs.Words.{inner, digit}
-use Rattle.words.proofs.Loops.{run_short}
-use Rattle.words.proofs.Finding.{finds_letter, finds_digit, finds_symbol}
+use Rattle.words.proofs.Finding.{or_end, finds_letter, finds_digit, finds_symbol, finds_fault, part_within}
 use Rattle.words.proofs.reader.steps.part_of.Goals as goal
 
-pub slice_bounds-letters-end : goal.slice_bounds-letters-end
-slice_bounds-letters-end c = let h = run_short inner c.args.text.now in let e = c.inner_length-n.ensures in simp length-take (omega arith)
+pub returns-then-is_letter-clause-finds : goal.returns-then-is_letter-clause-finds
+returns-then-is_letter-clause-finds c p =
+    finds_letter c.args.text.now c.front-name.result.now c.in-Some.first.now p c.map.result c.in-Some.ensures.value (sym c.if-is_letter.ensures)
+    (c.front-name.ensures inner (λ b r e. e)) (or_end p c.letters.result c.map.result c.map.ensures.cases ∙ c.letters.ensures p)
 
-pub returns-then-is_letter : goal.returns-then-is_letter
-returns-then-is_letter c =
-    let bs = c.args.text.now in
-    let h : 0 < length bs = omega (arith, false-eqb _ 0 c.if-is_empty.ensures) in
-    finds_letter bs c.args.place c.letters.result c.inner_length-n.result h (sym c.if-is_letter.ensures) c.inner_length-n.ensures c.letters.ensures
+pub returns-then-is_letter-clause-within : goal.returns-then-is_letter-clause-within
+returns-then-is_letter-clause-within c = part_within (returns-then-is_letter-clause-finds c _)
 
-pub slice_bounds-digits-end : goal.slice_bounds-digits-end
-slice_bounds-digits-end c = let h = run_short digit c.args.text.now in let e = c.digits_length-n.ensures in simp length-take (omega arith)
+pub returns-then-is_digit-clause-finds : goal.returns-then-is_digit-clause-finds
+returns-then-is_digit-clause-finds c p =
+    finds_digit c.args.text.now c.front-number.result.now c.in-Some.first.now p c.map-then-is_digit.result c.in-Some.ensures.value (sym c.if-is_letter.ensures)
+    (sym c.if-is_digit.ensures) (c.front-number.ensures digit (λ b r e. e)) (or_end p c.digits.result c.map-then-is_digit.result c.map-then-is_digit.ensures.cases ∙ c.digits.ensures p)
 
-pub returns-then-is_digit : goal.returns-then-is_digit
-returns-then-is_digit c =
-    let bs = c.args.text.now in
-    let h : 0 < length bs = omega (arith, false-eqb _ 0 c.if-is_empty.ensures) in
-    finds_digit bs c.args.place c.digits.result c.digits_length-n.result h (sym c.if-is_letter.ensures) (sym c.if-is_digit.ensures) c.digits_length-n.ensures c.digits.ensures
+pub returns-then-is_digit-clause-within : goal.returns-then-is_digit-clause-within
+returns-then-is_digit-clause-within c = part_within (returns-then-is_digit-clause-finds c _)
 
-pub returns-in-Some : goal.returns-in-Some
-returns-in-Some c =
-    let bs = c.args.text.now in
-    let h : 0 < length bs = omega (arith, false-eqb _ 0 c.if-is_empty.ensures) in
-    finds_symbol bs c.args.place c.in-Some.n c.in-Some.m h (sym c.if-is_letter.ensures) (sym c.if-is_digit.ensures) c.in-Some.ensures
+pub returns-in-Some-symbol_at-clause-finds : goal.returns-in-Some-symbol_at-clause-finds
+returns-in-Some-symbol_at-clause-finds c p =
+    finds_symbol c.args.text.now c.in-Some.first.now p c.in-Some-symbol_at.n c.in-Some-symbol_at.mark c.in-Some.ensures.value (sym c.if-is_letter.ensures)
+    (sym c.if-is_digit.ensures) c.in-Some-symbol_at.ensures
+
+pub returns-in-Some-symbol_at-clause-within : goal.returns-in-Some-symbol_at-clause-within
+returns-in-Some-symbol_at-clause-within c = part_within (returns-in-Some-symbol_at-clause-finds c _)
+
+pub returns-in-None-clause-finds : goal.returns-in-None-clause-finds
+returns-in-None-clause-finds c p =
+    finds_fault c.args.text.now c.in-Some.first.now p c.in-Some.ensures.value (sym c.if-is_letter.ensures) (sym c.if-is_digit.ensures) c.in-None.ensures
