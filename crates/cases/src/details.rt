@@ -1,6 +1,9 @@
 // What a graph has besides the listing, a line each with a line break before it.
-use language::Edge;
-use listing::parts::{Name, Span, table_name, variable_name};
+ghost use Rattle.std.specs.Prelude.{◌≡◌};
+ghost use Rattle.listing.specs.Names.{named, variable_names, table_names};
+
+use language::{Edge, Lookup};
+use listing::parts::{Name, Span, name_at};
 use reader::graph::Graph;
 use sentences::{Table, Variable};
 use std::fmt;
@@ -48,7 +51,7 @@ impl fmt::Display for Details<'_> {
 impl fmt::Display for Variables<'_> {
     fn fmt<W: fmt::Write>(&self, f: &mut fmt::Formatter<W>) -> fmt::Result {
         for variable in self.0 {
-            let name = Name(variable.name.as_slice());
+            let name = Name(&variable.name);
             write!(f, "\nvar {name} = {}", Span(variable.range))?;
         }
         Ok(())
@@ -58,18 +61,34 @@ impl fmt::Display for Variables<'_> {
 impl fmt::Display for Tables<'_> {
     fn fmt<W: fmt::Write>(&self, f: &mut fmt::Formatter<W>) -> fmt::Result {
         for table in self.0 {
-            let name = Name(table.name.as_slice());
+            let name = Name(&table.name);
             write!(f, "\ntable {name}[{}] = {}", table.size, Span(table.range))?;
         }
         Ok(())
     }
 }
 
+impl<'a> TableReads<'a> {
+    // The name of the table that is read.
+    fn table(&self, lookup: &Lookup) -> Name<'a>
+        ensures { result.0.now ≡ named (table_names self.now.0.now.tables.items) lookup.now.table }
+    {
+        name_at(self.0.tables(), lookup.table)
+    }
+
+    // The name of the variable that is the index.
+    fn index(&self, lookup: &Lookup) -> Name<'a>
+        ensures { result.0.now ≡ named (variable_names self.now.0.now.variables.items) lookup.now.index }
+    {
+        name_at(self.0.variables(), lookup.index)
+    }
+}
+
 impl fmt::Display for TableReads<'_> {
     fn fmt<W: fmt::Write>(&self, f: &mut fmt::Formatter<W>) -> fmt::Result {
         for lookup in self.0.lookups() {
-            let table = table_name(self.0.tables(), lookup.table);
-            let index = variable_name(self.0.variables(), lookup.index);
+            let table = self.table(lookup);
+            let index = self.index(lookup);
             let point = lookup.point;
             let line = lookup.place.line;
             let column = lookup.place.column;

@@ -35,7 +35,7 @@ fn run(rt: &HostRuntime, text: &str) -> anyhow::Result<()> {
     for case in text.split("\ncase ") {
         let (name, lines) = case.split_once('\n').unwrap_or((case, ""));
         let script = script_of(rt.alloc(), lines)?;
-        tell(rt, name, reader::read(rt.alloc(), script.as_slice()))?;
+        tell(rt, name, reader::read(rt.alloc(), &script))?;
     }
     Ok(())
 }
@@ -43,5 +43,5 @@ fn run(rt: &HostRuntime, text: &str) -> anyhow::Result<()> {
 // Reads the cases on standard input.
 fn main(rt: HostRuntime) -> anyhow::Result<()> {
     let text = io::read_to_string(rt.alloc(), rt.stdin())?;
-    run(&rt, text.as_str())
+    run(&rt, &text)
 }

@@ -20,28 +20,24 @@ fn add_line(script: &mut Vec<u8>, line: &str) -> anyhow::Result<()>
 {
     if let Some(rest) = line.strip_prefix("@repeat ") {
         let (count, text) = rest.split_once(' ').unwrap_or((rest, ""));
-        return repeat(script, count.parse::<usize>()?, text.as_bytes());
+        repeat(script, count.parse()?, text)
+    } else if let Some(size) = line.strip_prefix("@fill ") {
+        fill(script, size.parse()?)
+    } else if let Some(numbers) = line.strip_prefix("@bytes ") {
+        add_bytes(script, numbers)
+    } else {
+        script.extend_from_slice(line.as_bytes())?;
+        Ok(())
     }
-    if let Some(size) = line.strip_prefix("@fill ") {
-        return fill(script, size.parse::<usize>()?);
-    }
-    if let Some(numbers) = line.strip_prefix("@bytes ") {
-        return add_bytes(script, numbers);
-    }
-    script.extend_from_slice(line.as_bytes())?;
-    Ok(())
 }
 
 // Adds a line so many times, with a line break between two of them.
-fn repeat(script: &mut Vec<u8>, count: usize, line: &[u8]) -> anyhow::Result<()>
+fn repeat(script: &mut Vec<u8>, count: usize, line: &str) -> anyhow::Result<()>
     ensures { vec_len script.old ≤ vec_len script.new }
 {
-    for i in 0..count {
-        if i > 0 {
-            script.push(b'\n')?;
-        }
-        script.extend_from_slice(line)?;
-    }
+    let heap = *script.allocator();
+    let lines = vec![in heap; line; count]?.join(heap, "\n")?;
+    script.extend_from_slice(lines.as_bytes())?;
     Ok(())
 }
 
@@ -50,9 +46,7 @@ fn fill(script: &mut Vec<u8>, size: usize) -> anyhow::Result<()>
     ensures grows { vec_len script.old ≤ vec_len script.new }
     ensures filled { OnOk result (vec_len script.new ≡ max (vec_len script.old) size) }
 {
-    for _i in script.len()..size {
-        script.push(b' ')?;
-    }
+    script.resize(script.len().max(size), b' ')?;
     Ok(())
 }
 

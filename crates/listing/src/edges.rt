@@ -4,7 +4,7 @@ ghost use Rattle.std.proofs.Math.Utf8.{encodes};
 ghost use Rattle.listing.specs.Edges.{chosen_text, sum_text, effect_text, edge_line};
 ghost use Rattle.listing.specs.Names.{named, variable_names};
 
-use crate::parts::{Name, Span, variable_name};
+use crate::parts::{Name, Span, name_at};
 use language::{Action, Edge, Range, Source};
 use sentences::Variable;
 use std::fmt;
@@ -13,7 +13,7 @@ use std::fmt;
 #[derive(Drop)]
 pub struct EdgeLine<'a> {
     pub variables: &'a [Variable],
-    pub edge: Edge,
+    pub edge: &'a Edge,
 }
 
 // What an edge does.
@@ -25,14 +25,20 @@ struct Effect<'a> {
 
 // Any number of a range, by the source that it comes from. A range that is written has one number.
 #[derive(Drop)]
-struct Chosen(Source, Range);
+struct Chosen {
+    source: Source,
+    range: Range,
+}
 
 // A variable and the number that is added to it.
 #[derive(Drop)]
-struct Sum<'a>(Name<'a>, i64);
+struct Sum<'a> {
+    name: Name<'a>,
+    added: i64,
+}
 
 impl fmt::Display for EdgeLine<'_> {
-    ghost output = { λ x. Some (edge_line (variable_names x.variables.now) x.edge) };
+    ghost output = { λ x. Some (edge_line (variable_names x.variables.now) x.edge.now) };
 
     fn fmt<W: fmt::Write>(&self, f: &mut fmt::Formatter<W>) -> fmt::Result {
         let effect = Effect {
@@ -48,7 +54,17 @@ impl<'a> Effect<'a> {
     fn name(&self, number: usize) -> Name<'a>
         ensures { result.0.now ≡ named (variable_names self.now.variables.now) number }
     {
-        variable_name(self.variables, number)
+        name_at(self.variables, number)
+    }
+
+    // A variable and the number that is added to it.
+    fn sum(&self, number: usize, added: i64) -> Sum<'a>
+        ensures { (result.name.0.now ≡ named (variable_names self.now.variables.now) number) × (result.added ≡ added) }
+    {
+        Sum {
+            name: self.name(number),
+            added,
+        }
     }
 }
 
@@ -62,7 +78,7 @@ impl fmt::Display for Effect<'_> {
                 f,
                 "{} := {}",
                 self.name(k),
-                Chosen(source, range)
+                Chosen { source, range }
             ),
             Action::Read(k, i, range) => write!(
                 f,
@@ -71,40 +87,38 @@ impl fmt::Display for Effect<'_> {
                 Span(range),
                 self.name(i)
             ),
-            Action::Shift(k, i, c) => write!(f, "{} := {}", self.name(k), Sum(self.name(i), c)),
+            Action::Shift(k, i, c) => write!(f, "{} := {}", self.name(k), self.sum(i, c)),
             Action::Negate(k, i) => write!(f, "{} := -{}", self.name(k), self.name(i)),
             Action::AtMost(i, c) => write!(f, "{} <= {c}", self.name(i)),
             Action::AtLeast(i, c) => write!(f, "{} >= {c}", self.name(i)),
             Action::Before(i, k, -1) => write!(f, "{} < {}", self.name(i), self.name(k)),
-            Action::Before(i, k, d) => write!(f, "{} <= {}", self.name(i), Sum(self.name(k), d)),
+            Action::Before(i, k, d) => write!(f, "{} <= {}", self.name(i), self.sum(k, d)),
         }
     }
 }
 
 impl fmt::Display for Chosen {
-    ghost output = { λ x. Some (chosen_text x.0 x.1) };
+    ghost output = { λ x. Some (chosen_text x.source x.range) };
 
     fn fmt<W: fmt::Write>(&self, f: &mut fmt::Formatter<W>) -> fmt::Result {
-        match self.0 {
-            Source::Written => write!(f, "{}", self.1.low),
-            Source::Sensed => write!(f, "sense {}", Span(self.1)),
-            Source::Heard => write!(f, "hear {}", Span(self.1)),
+        match self.source {
+            Source::Written => write!(f, "{}", self.range.low),
+            Source::Sensed => write!(f, "sense {}", Span(self.range)),
+            Source::Heard => write!(f, "hear {}", Span(self.range)),
         }
     }
 }
 
 impl fmt::Display for Sum<'_> {
-    ghost output = { λ x. Some (sum_text (encodes x.0.0.now) x.1) };
+    ghost output = { λ x. Some (sum_text (encodes x.name.0.now) x.added) };
 
     fn fmt<W: fmt::Write>(&self, f: &mut fmt::Formatter<W>) -> fmt::Result {
-        let name = self.0;
-        let size = self.1.unsigned_abs();
-        if self.1 > 0 {
-            write!(f, "{name} + {size}")
-        } else if self.1 < 0 {
-            write!(f, "{name} - {size}")
-        } else {
-            write!(f, "{name}")
+        let name = self.name;
+        let size = self.added.unsigned_abs();
+        match self.added {
+            0 => write!(f, "{name}"),
+            1.. => write!(f, "{name} + {size}"),
+            _ => write!(f, "{name} - {size}"),
         }
     }
 }

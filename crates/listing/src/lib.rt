@@ -42,7 +42,6 @@ impl fmt::Display for Listing<'_> {
         let variables = self.0.variables();
         write!(f, "{}", Summary(self.0))?;
         for edge in self.0.edges() {
-            let edge = *edge;
             write!(f, "\n{}", EdgeLine { variables, edge })?;
         }
         Ok(())
@@ -53,12 +52,10 @@ impl fmt::Display for RefusalLine {
     ghost output = { λ x. Some (refusal_line x.0) };
 
     fn fmt<W: fmt::Write>(&self, f: &mut fmt::Formatter<W>) -> fmt::Result {
-        let layer = self.0.reason.layer().text();
-        let number = self.0.reason.number();
-        let (line, column) = match self.0.place {
-            Some(place) => (place.line, place.column),
-            None => (0, 0),
-        };
+        let Refusal { reason, place } = self.0;
+        let layer = reason.layer();
+        let number = reason.number();
+        let (line, column) = place.map_or((0, 0), |place| (place.line, place.column));
         write!(f, "refused {layer} {number} {line} {column}")
     }
 }

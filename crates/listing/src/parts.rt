@@ -1,11 +1,11 @@
 // Names and ranges as text.
-ghost use Rattle.std.specs.Prelude.{◌≡◌, Some};
+ghost use Rattle.std.specs.Prelude.{◌≡◌, Some, map};
 ghost use Rattle.std.proofs.Math.Utf8.{encodes};
 ghost use Rattle.listing.specs.Edges.{span_text};
-ghost use Rattle.listing.specs.Names.{named, variable_names, table_names};
+ghost use Rattle.listing.specs.Names.{named};
 
 use language::Range;
-use sentences::{Table, Variable};
+use sentences::Named;
 use std::fmt;
 
 // A name: letters, digits and _, a byte each.
@@ -35,22 +35,12 @@ impl fmt::Display for Span {
     }
 }
 
-// The name of a variable by its number, or ? if there is none.
-pub fn variable_name<'a>(variables: &'a [Variable], number: usize) -> Name<'a>
-    ensures { result.0.now ≡ named (variable_names variables.now) number }
+// The name of what stands under a number, or ? if there is none.
+pub fn name_at<T: Named>(list: &[T], number: usize) -> Name<'_>
+    ensures { result.0.now ≡ named (map T.Named.called list.now) number }
 {
-    match variables.get(number) {
-        Some(variable) => Name(variable.name.as_slice()),
-        None => Name(b"?"),
-    }
-}
-
-// The name of a table by its number, or ? if there is none.
-pub fn table_name<'a>(tables: &'a [Table], number: usize) -> Name<'a>
-    ensures { result.0.now ≡ named (table_names tables.now) number }
-{
-    match tables.get(number) {
-        Some(table) => Name(table.name.as_slice()),
+    match list.get(number) {
+        Some(x) => Name(x.name()),
         None => Name(b"?"),
     }
 }

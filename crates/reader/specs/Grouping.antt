@@ -1,5 +1,6 @@
 -- What every graph keeps: it is the graph of a script, its numbers are in range, and its edges are grouped by target.
-use Rattle.std.specs.Prelude.{ℕ, zero, suc, Bool, true, cond, ◌&&◌, List, [], ◌∷◌, ◌++◌, map, length, ◌==◌, nat_lt}
+use Rattle.std.specs.Prelude.{◌≡◌, ℕ, Bool, true, ◌&&◌, ◌<◌, List, map, filter, length, ◌==◌, nat_lt, vec_items, slice_index_or}
+use Rattle.std.specs.Global.{Vec}
 use Rattle.language.specs.Graphs as graphs
 use Rattle.language.specs.Names.{Verdict}
 use Rattle.language.specs.Names.Outcome.{drawn}
@@ -19,11 +20,6 @@ graph_of vs ts n es ls = record { variables = map variable_of vs; tables = map t
 pub record OfScript (g : graphs.Graph) : Type 0 where
   pub script : List ℕ
   pub read : Verdict script (drawn g)
-
--- each passes a test
-abbrev pub all : {A : Type 0} → (A → Bool) → List A → Bool
-all f [] = true
-all f (x ∷ xs) = f x && all f xs
 
 -- the variables of an action are below their count
 abbrev pub names_below : ℕ → Action → Bool
@@ -45,15 +41,8 @@ lookup_fits n v t l = nat_lt l.point n && nat_lt l.index v && nat_lt l.table t
 
 -- the edges to a point, in the order made
 abbrev pub incoming : ℕ → List Edge → List Edge
-incoming p [] = []
-incoming p (e ∷ es) = cond (e.target == p) (e ∷ incoming p es) (incoming p es)
+incoming p es = filter (λ e. e.target == p) es
 
--- the edges to the points below a number, point by point
-abbrev pub grouped : ℕ → List Edge → List Edge
-grouped zero es = []
-grouped (suc p) es = grouped p es ++ incoming p es
-
--- where the edges to each point begin among these, and where the last end
-abbrev pub offsets : ℕ → List Edge → List ℕ
-offsets zero es = 0 ∷ []
-offsets (suc p) es = offsets p es ++ (length (grouped (suc p) es) ∷ [])
+-- under the number of each point stand the edges to it
+abbrev pub ByTarget : List Edge → List (Vec Edge) → Type 0
+ByTarget es lists = (p : ℕ) (d : Vec Edge) → p < length lists → vec_items (slice_index_or lists p d) ≡ incoming p es

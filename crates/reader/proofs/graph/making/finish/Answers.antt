@@ -1,13 +1,18 @@
-use Rattle.std.proofs.Common.{◌≡◌, ℕ, ◌<◌, ◌≤◌, map, length, vec_items, vec_len, sym, ap, ◌∙◌, subst}
+use Rattle.std.proofs.Common.{◌≡◌, ℕ, ◌<◌, List, All, map, length, vec_items, vec_len, sym, ◌∙◌, subst, arith}
 use Rattle.language.specs.Graphs.{Each, Below}
 use Rattle.language.specs.declared.Edge.{Edge}
 use Rattle.language.specs.declared.Lookup.{Lookup}
 use Rattle.language.proofs.Verdicts.{drawn_well}
 use Rattle.sentences.specs.Models.{variable_of, table_of}
-use Rattle.reader.specs.Grouping.{grouped, offsets}
-use Rattle.sentences.proofs.Naming.{length_of}
-use Rattle.reader.proofs.Grouped.{made_ends, edges_fit, lookups_fit}
+use Rattle.reader.specs.Grouping.{ByTarget}
+use Rattle.std.proofs.lemmas.List.{length-map}
+use Rattle.reader.proofs.Grouped.{all_each, made_ends, edges_fit, lookups_fit}
 use Rattle.reader.proofs.graph.making.finish.Goals as goal
+
+pub group-requires : goal.group-requires
+group-requires c =
+    let well = (drawn_well c.requires.script _ c.requires.read).0 in
+    subst (All (λ (e : Edge). e.target < c.args.drawing.points)) (sym c.deref.ensures.value) (λ i d h. (made_ends well.made i d h).1)
 
 pub invariant_of-result : goal.invariant_of-result
 invariant_of-result c =
@@ -18,19 +23,15 @@ invariant_of-result c =
     let n = c.args.drawing.points in
     let w = drawn_well c.requires.script _ c.requires.read in
     let well = w.0 in
-    let v : length (map variable_of (vec_items vars)) ≡ vec_len vars = length_of variable_of (vec_items vars) ∙ sym vars.ok.0 in
-    let t : length (map table_of (vec_items tabs)) ≡ vec_len tabs = length_of table_of (vec_items tabs) ∙ sym tabs.ok.0 in
-    let a = w.2 in
-    let b = w.3 in
-    let g = c.in_ok-group.ensures c.new-inward.ensures.items c.new-starts.ensures.items in
-    let s = c.as_slice.ensures.value in
+    let v : length (map variable_of (vec_items vars)) ≡ vec_len vars = length-map (vec_items vars) variable_of ∙ sym vars.ok.0 in
+    let t : length (map table_of (vec_items tabs)) ≡ vec_len tabs = length-map (vec_items tabs) table_of ∙ sym tabs.ok.0 in
     record {
       few_points = w.1;
-      few_variables = subst (λ (m : ℕ). m ≤ 8) v a;
-      few_tables = subst (λ (m : ℕ). m ≤ 8) t b;
-      edges_fit = edges_fit n (vec_len vars) es (made_ends well.made) (subst (λ (m : ℕ). Each (λ (e : Edge). Below m e.action) es) v well.actions);
-      lookups_fit = lookups_fit n (vec_len vars) (vec_len tabs) ls (subst (λ (m : ℕ). Each (λ (l : Lookup). (l.point < n) × (l.index < m) × (l.table < vec_len tabs)) ls) v (subst (λ (m : ℕ). Each (λ (l : Lookup). (l.point < n) × (l.index < length (map variable_of (vec_items vars))) × (l.table < m)) ls) t well.reads));
-      by_target = g.0 ∙ ap (grouped n) s;
-      starting = g.1 ∙ ap (offsets n) s;
+      few_variables = omega arith;
+      few_tables = omega arith;
+      edges_fit = edges_fit n (vec_len vars) es (made_ends well.made) (all_each _ es (subst (λ (m : ℕ). Each (λ (e : Edge). Below m e.action) es) v well.actions));
+      lookups_fit = lookups_fit n (vec_len vars) (vec_len tabs) ls (all_each _ ls (subst (λ (m : ℕ). Each (λ (l : Lookup). (l.point < n) × (l.index < m) × (l.table < vec_len tabs)) ls) v (subst (λ (m : ℕ). Each (λ (l : Lookup). (l.point < n) × (l.index < length (map variable_of (vec_items vars))) × (l.table < m)) ls) t well.reads)));
+      for_each_point = c.in_ok-incoming.ensures.0;
+      by_target = subst (λ (xs : List Edge). ByTarget xs (vec_items c.in_ok-incoming.incoming)) c.deref.ensures.value c.in_ok-incoming.ensures.1;
       drawn = ∣ c.requires ∣₁;
     }

@@ -1,8 +1,7 @@
-use Rattle.std.proofs.Common.{◌≡◌, [], ◌∷◌, vec_items}
-use Rattle.reader.specs.Grouping.{grouped, offsets}
+-- the edges so far stand by their targets
+use Rattle.std.proofs.Common.{◌≡◌, take, vec_len, vec_items}
+use Rattle.reader.specs.Grouping.{ByTarget}
 use Rattle.reader.proofs.graph.making.group.Given as goal
 
-abbrev pub invariant-loop-p : goal.invariant-loop-p
-invariant-loop-p l =
-    vec_items l.initial.inward ≡ [] → vec_items l.initial.starts ≡ 0 ∷ [] →
-    (vec_items l.inward ≡ grouped l.p l.edges) × (vec_items l.starts ≡ offsets l.p l.edges)
+abbrev pub invariant-loop-edge : goal.invariant-loop-edge
+invariant-loop-edge l = (vec_len l.incoming ≡ l.points) × ByTarget (take l.edge-index l.edges) (vec_items l.incoming)

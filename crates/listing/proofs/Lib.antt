@@ -1,2 +1,0 @@
-mod Named
-mod Pieces
