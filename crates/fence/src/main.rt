@@ -23,7 +23,7 @@ fn script_from_input(rt: &HostRuntime) -> io::Result<Vec<u8>>
 // Prints what became of the script on standard input.
 fn main(rt: HostRuntime) -> io::Result<()> {
     let script = script_from_input(&rt)?;
-    match reader::read(rt.alloc(), script.as_slice()) {
+    match reader::read(rt.alloc(), &script) {
         Ok(graph) => println!(rt; "{}", Listing(&graph)),
         Err(refusal) => println!(rt; "{}", RefusalLine(refusal)),
     }

@@ -33,8 +33,8 @@ impl Shape {
             Shape::Chain | Shape::Reverse => 1,
             Shape::Ring if unknown.before().is_none() => 2,
             Shape::Ring => 1,
-            Shape::Grid if unknown.above().and(unknown.left()).is_none() => 2,
-            Shape::Grid => 3,
+            Shape::Grid if unknown.is_inner() => 3,
+            Shape::Grid => 2,
         }
     }
 
@@ -77,8 +77,8 @@ fn grid(unknown: Unknown, number: usize) -> Option<Alternative<Bound, i64>>
 {
     match number {
         0 => Some(capped(unknown.place, unknown.height())),
-        1 => Some(link(unknown.above().or(unknown.left()))),
-        2 => Some(Alternative::shifted(unknown.above().and(unknown.left())?, 1)),
+        1 => Some(link(unknown.entry())),
+        2 if unknown.is_inner() => Some(link(unknown.before())),
         _ => None,
     }
 }

@@ -31,10 +31,8 @@ fn letters(bytes: &[u8]) -> Result<Word<'_>, Reason>
 fn digits(bytes: &[u8]) -> Result<Word<'_>, Reason>
     ensures { (p : Place) → word_at p result ≡ digits_next bytes.now p }
 {
-    match number_of(bytes) {
-        Some(n) => Ok(Word::Number(n)),
-        None => Err(Reason::NumberTooLarge),
-    }
+    let n = number_of(bytes).ok_or(Reason::NumberTooLarge)?;
+    Ok(Word::Number(n))
 }
 
 // The part at the front of bytes that begin with no blank and no comment, and its length.
