@@ -1,4 +1,5 @@
 // What the parts of a book are worth at the values of a list of entries. An unknown that is not in the list counts as least.
+// `Short` is a premise and no invariant of a type: a list comes from any caller, and no test tells of how many items a value is made.
 ghost use Rattle.std.specs.Prelude.{◌≡◌, ℕ, not, [], slice_index_or};
 ghost use Rattle.kinds.specs.Kinds.{Made};
 ghost use Rattle.kinds.specs.Limits.{most_items};
@@ -103,6 +104,7 @@ pub fn right_side<K: Kind, B: Book<K>>(book: &B, list: &[Entry<K>], unknown: usi
         first: None,
     };
     let count = book.alternatives(unknown).unwrap_or(0);
+    // By number: a book answers for one alternative at a time, and holds no list of them.
     for number in 0..count {
         if let Ok(choice) = book.alternative(unknown, number) {
             best = better(best, number, alternative_value(choice, list));
@@ -116,6 +118,7 @@ pub fn rises<K: Kind, B: Book<K>>(book: &B, list: &[Entry<K>], unknown: usize, v
     ensures { Short K.Kind.ops (values list.now) → Made K.Kind.ops most_items value → result ≡ not (K.Kind.ops.at_most (right K.Kind.ops (B.Book.meaning book.now) (values list.now) unknown) value) }
 {
     let count = book.alternatives(unknown).unwrap_or(0);
+    // By number: a book answers for one alternative at a time, and holds no list of them.
     for number in 0..count {
         if let Ok(choice) = book.alternative(unknown, number) {
             if !alternative_value(choice, list).at_most(value) {

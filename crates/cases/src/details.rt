@@ -16,7 +16,7 @@ pub struct Details<'a>(pub &'a Graph);
 #[derive(Drop)]
 struct Variables<'a>(&'a [Variable]);
 
-// The tables with their sizes and ranges.
+// The tables with their sizes and ranges. Not one with the variables: in the middle of its line a table has its size.
 #[derive(Drop)]
 struct Tables<'a>(&'a [Table]);
 
@@ -114,6 +114,7 @@ impl fmt::Display for Places<'_> {
 impl fmt::Display for Entries<'_> {
     fn fmt<W: fmt::Write>(&self, f: &mut fmt::Formatter<W>) -> fmt::Result {
         f.write_str("\nedges into")?;
+        // By number: points have nothing but numbers.
         for point in 0..self.0.points() {
             write!(f, " {point}{}", Sources(self.0.incoming(point)))?;
         }

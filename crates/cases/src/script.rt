@@ -14,7 +14,7 @@ pub fn script_of(heap: Global, lines: &str) -> anyhow::Result<Vec<u8>> {
     Ok(script)
 }
 
-// Adds what a line stands for.
+// Adds what a line stands for. That a script only grows is said of each call that adds: it is about two states, which no invariant of a type tells.
 fn add_line(script: &mut Vec<u8>, line: &str) -> anyhow::Result<()>
     ensures { vec_len script.old ≤ vec_len script.new }
 {

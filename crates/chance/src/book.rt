@@ -42,6 +42,7 @@ impl Chance {
         if unknown >= self.count {
             return Err(Refusal::unplaced(Reason::NotThere));
         }
+        // `as`: it is below 12, and no `From` leads from `usize` to `u32`.
         Ok(Site {
             spot: Spot::new(self.seed, unknown as u32, number),
             count: self.count,
@@ -67,6 +68,7 @@ impl Chance {
         if number >= self.width(unknown)? {
             return Err(Refusal::unplaced(Reason::NotThere));
         }
+        // `as`: it is below 5, and no `From` leads from `usize` to `u32`.
         Ok(self.site(unknown, number as u32)?.alternative())
     }
 }

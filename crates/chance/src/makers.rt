@@ -29,6 +29,7 @@ pub trait Drawn: Kind {
 fn whole(number: u64) -> i64
     ensures { result ≡ whole_from number }
 {
+    // `as`: a remainder fits, and no `From` leads from `u64` to `i64`.
     (number % 41) as i64 - 20
 }
 
@@ -53,6 +54,7 @@ impl Drawn for Bound {
 
     // From -3 to 3.
     fn weight(number: u64) -> i64 {
+        // `as`: as for a whole number.
         (number % 7) as i64 - 3
     }
 }

@@ -31,6 +31,7 @@ impl Site {
     pub(crate) fn width(self) -> usize
         ensures { result ≡ drawn self.spot Alternatives % 5 }
     {
+        // `as`: a remainder fits, and no `From` leads from `u64` to `usize`.
         (self.spot.draw(Purpose::Alternatives) % 5) as usize
     }
 
@@ -38,6 +39,7 @@ impl Site {
     fn unknown(self, purpose: Purpose) -> usize
         ensures { result ≡ drawn self.spot purpose % self.count }
     {
+        // `as`: drawn numbers are below 2^31, and no `From` leads from `u64` to `usize`.
         self.spot.draw(purpose) as usize % self.count
     }
 

@@ -15,6 +15,7 @@ fn script_from_input(rt: &HostRuntime) -> io::Result<Vec<u8>>
     ensures { IfOk result (λ script. vec_len script ≤ 8193) }
 {
     let mut script = Vec::new(rt.alloc());
+    // `as`: no `From` leads from `usize` to `u64`.
     rt.stdin().take(ENOUGH as u64).read_to_end(&mut script)?;
     script.truncate(ENOUGH);
     Ok(script)

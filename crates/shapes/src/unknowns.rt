@@ -54,6 +54,7 @@ impl Unknown {
     pub(crate) fn height(self) -> u32
         ensures { result ≡ height_of self.place }
     {
+        // `as`: there are at most 1,536 unknowns, and no `From` leads from `usize` to `u32`.
         100 * (self.place / COLUMNS + self.place % COLUMNS + 1) as u32
     }
 }

@@ -6,7 +6,7 @@ use std::alloc::Global;
 // More turns than any drawn book takes.
 const MOST_TURNS: u32 = 100000;
 
-// What the levels came to, and whether they came to rest.
+// What the levels came to, and whether they came to rest: a flag beside them, since they are compared in both cases.
 #[derive(Drop)]
 pub struct Ascent {
     pub levels: Vec<Level>,

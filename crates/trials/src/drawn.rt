@@ -102,6 +102,7 @@ fn solve<K: Plain, B: Book<K>>(
 ) -> Result<(), Refusal> {
     let count = book.count();
     let equations = read_equations(heap, book)?;
+    // `as`: there are at most 12, and no `From` leads from `usize` to `i64`.
     let cap = MOST_CONSTANT.saturating_mul(count as i64);
     let ascent = ascend(heap, equations.as_slice(), count, cap)?;
     let mut analysis = Living::set_up(heap, book, list)?;
@@ -119,6 +120,7 @@ fn solve<K: Plain, B: Book<K>>(
 
 // Solves the book of a seed.
 fn try_book<K: Plain + Drawn>(heap: Global, seed: u32, tally: &mut Tally) -> Result<(), Refusal> {
+    // `as`: a remainder fits, and no `From` leads from `u32` to `usize`.
     let book = Chance::new(seed, (seed % SIZES) as usize);
     let mut list = blank::<K>(heap, 12)?;
     solve(heap, &book, list.as_mut_slice(), tally)?;

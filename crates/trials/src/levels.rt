@@ -5,6 +5,7 @@ use refusal::Refusal;
 use std::alloc::Global;
 
 // A value of either kind: the lowest, a number between, or the highest; in this order.
+// A type of its own and no `Bound`: this solver shares nothing with the one that it is there to try.
 #[derive(Clone, Copy, PartialEq, Eq, PartialOrd, Ord)]
 pub enum Level {
     Lowest,
@@ -156,6 +157,7 @@ fn add_equations<K: Plain, B: Book<K>>(
     book: &B,
     unknown: usize,
 ) -> Result<(), Refusal> {
+    // By number: a book answers for one alternative at a time.
     for number in 0..book.alternatives(unknown)? {
         all.push(read_equation(unknown, book.alternative(unknown, number)?))?;
     }
@@ -168,6 +170,7 @@ pub fn read_equations<K: Plain, B: Book<K>>(
     book: &B,
 ) -> Result<Vec<Equation>, Refusal> {
     let mut all = Vec::new(heap);
+    // By number: a book answers for one unknown at a time.
     for unknown in 0..book.count() {
         add_equations(&mut all, book, unknown)?;
     }

@@ -20,6 +20,7 @@ pub struct Seen {
 }
 
 // What one or more runs came to: the rounds that they answered, whether no run made more than its budget, and whether the last was settled.
+// Flags beside the rounds and no `Result`: lives are compared in all three, whatever they are.
 #[derive(Clone, Copy, PartialEq)]
 pub struct Course {
     pub rounds: u16,
@@ -84,6 +85,7 @@ pub fn look<K: Plain>(
     count: usize,
 ) -> Result<Vec<Seen>, Refusal> {
     let mut all = Vec::new(heap);
+    // By number: an analysis shows one unknown at a time.
     for unknown in 0..count {
         let level = analysis.value(unknown)?.level();
         let choice = analysis.choice(unknown)?;

@@ -27,12 +27,14 @@ pub(crate) fn is_inner(b: u8) -> bool
     is_letter(b) || is_digit(b) || b == b'_'
 }
 
+// Whether a byte is skipped. A flag tells whether it stands inside a comment: there are only these two states, and the definition has the same flag.
 pub(crate) fn is_skipped(comment: bool, b: u8) -> bool
     ensures { result ≡ skipped comment b }
 {
     comment || matches!(b, b' ' | b'\t' | b'\r' | b'\n' | b'#')
 }
 
+// Whether the byte behind it stands inside a comment.
 pub(crate) fn is_commenting(comment: bool, b: u8) -> bool
     ensures { result ≡ commenting comment b }
 {

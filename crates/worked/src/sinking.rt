@@ -10,6 +10,7 @@ use kinds::Kind;
 use refusal::{Reason, Refusal};
 
 // A whole number, or minus infinity, or plus infinity, from the lowest to the highest.
+// A type of its own, since `Bound` is a kind already: this one has the same values and other weights.
 #[derive(Clone, Copy, PartialEq, Eq, PartialOrd, Ord, Debug)]
 pub enum Depth {
     Least,
