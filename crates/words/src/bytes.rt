@@ -34,7 +34,7 @@ pub(crate) fn is_skipped(comment: bool, b: u8) -> bool
     comment || matches!(b, b' ' | b'\t' | b'\r' | b'\n' | b'#')
 }
 
-// Whether the byte behind it stands inside a comment.
+// Whether the byte after it stands inside a comment.
 pub(crate) fn is_commenting(comment: bool, b: u8) -> bool
     ensures { result ≡ commenting comment b }
 {
