@@ -87,5 +87,6 @@ pub fn make_calls<K: Kind, B: Book<K>>(
     if list.len() < count || answers.len() < calls.len() {
         return Err(Refusal::unplaced(Reason::ListTooShort));
     }
+    // By range: of a list cut by its `get_mut` a proof learns only the length, and the clause says what lies behind.
     Ok(make_all(book, &mut list[0..count], calls, answers))
 }

@@ -40,7 +40,7 @@ fn relax<K: Kind, B: Book<K>>(book: &B, list: &mut [Entry<K>], unknown: usize) -
     true
 }
 
-// Whether two values are equal.
+// Whether two values are equal. By the order: a kind has no other test of equality.
 fn same<K: Kind>(value: K, other: K) -> bool
     ensures { Made K.Kind.ops most_items value → Made K.Kind.ops most_items other → (result ≡ true) ↔ (value ≡ other) }
 {

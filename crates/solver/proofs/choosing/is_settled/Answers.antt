@@ -1,19 +1,14 @@
-use Rattle.std.proofs.Common.{◌≡◌, Bool, true, false, not, refl, sym, true≢false, rules}
+use Rattle.std.proofs.Common.{◌≡◌, Bool, true, false, not, sym, ap, ◌∙◌, rules}
 use Rattle.std.proofs.lemmas.Iterator.{cases_from_all, YieldsList-from_slice}
 use Rattle.std.proofs.lemmas.Iterator.Consumers.{YieldsList-from_enumerate}
 use Rattle.strategy.proofs.Choosing.{Under, settled_all}
 use Rattle.books.specs.Entries.{values}
 use Rattle.solver.proofs.choosing.is_settled.Goals as goal
 
-at_rest : (b r : Bool) (P : Type 0) → true ≡ not r → (P → r ≡ not b) → P → b ≡ true
-at_rest true r P e f p = refl
-at_rest false true P e f p = absurd (true≢false e)
-at_rest false false P e f p = f p
-
-at_rise : (b r : Bool) (P : Type 0) → false ≡ not r → (P → r ≡ not b) → P → b ≡ false
-at_rise false r P e f p = refl
-at_rise true true P e f p = f p
-at_rise true false P e f p = absurd (true≢false (sym e))
+-- what the closure answers of an entry, r being what `rises` said
+at_test : (b r t : Bool) (P : Type 0) → t ≡ not r → (P → r ≡ not b) → P → b ≡ t
+at_test true r t P e f p = sym (e ∙ ap not (f p))
+at_test false r t P e f p = sym (e ∙ ap not (f p))
 
 pub returns : goal.returns
 returns g c h len =
@@ -23,4 +18,4 @@ returns g c h len =
     let es = c.args.list.now in
     settled_all o l m es h len c.all.result
     (cases_from_all _ _ c.all.result (Under o l m (values es) true) (Under o l m (values es) false) c.all.ensures.ran (YieldsList-from_enumerate (YieldsList-from_slice es (cc)) (cc))
-    (λ y q k. search (rules, at_rest)) (λ y q k. search (rules, at_rise)))
+    (λ y q k. search (rules, at_test)) (λ y q k. search (rules, at_test)))

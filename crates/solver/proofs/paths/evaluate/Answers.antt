@@ -1,14 +1,7 @@
-use Rattle.std.proofs.Common.{◌≡◌, List, ap, ◌∙◌, subst, length, arith}
-use Rattle.books.specs.declared.Entry.{Entry}
+use Rattle.std.proofs.Common.{◌≡◌, ap, ◌∙◌, length, arith}
 use Rattle.strategy.specs.Steps.{opened_all}
-use Rattle.strategy.proofs.Paths.{Swept, swept_none, swept_next, swept_still, swept_out, opened_choices}
+use Rattle.strategy.proofs.Paths.{swept_next, swept_still, swept_out, opened_choices}
 use Rattle.solver.proofs.paths.evaluate.Goals as goal
-
-pub loop-turn-init : goal.loop-turn-init
-loop-turn-init g c =
-    let l = g.met.K.Kind.laws in
-    let m = g.B.Book.meaning c.args.book.now in
-    subst (λ (ds : List (Entry _)). Swept g.K.Kind.ops l m ds 0 c.open.new.list) c.open.ensures (swept_none g.K.Kind.ops l m c.open.new.list)
 
 pub loop-turn-preserved : goal.loop-turn-preserved
 loop-turn-preserved g c =

@@ -1,13 +1,10 @@
-use Rattle.std.proofs.Common.{◌≡◌, ℕ, ◌≤◌, List, length, Option, sym, refl, ap, ◌∙◌, subst, arith}
+use Rattle.std.proofs.Common.{ℕ, ◌≤◌, List, length, Option, sym, ap, ◌∙◌, subst, arith}
 use Rattle.std.proofs.lemmas.Bool.{or_parts}
 use Rattle.books.specs.Entries.{values, choices, Short}
 use Rattle.strategy.specs.Strategies.{chosen}
-use Rattle.strategy.specs.Sweeping.{relaxed, swept}
+use Rattle.strategy.specs.Sweeping.{relaxed}
 use Rattle.strategy.proofs.Loops.{swept_more}
 use Rattle.solver.proofs.paths.sweep.Goals as goal
-
-pub loop-unknown-init : goal.loop-unknown-init
-loop-unknown-init g c = (λ h. refl, refl, λ e. refl)
 
 pub loop-unknown-preserved : goal.loop-unknown-preserved
 loop-unknown-preserved g c =
@@ -28,13 +25,3 @@ loop-unknown-preserved g c =
           let no = or_parts c.loop-unknown.changed c.relax-changed.result e in
           c.relax-changed.ensures.still no.1 ∙ inv.2 no.0,
     )
-
-pub returns : goal.returns
-returns g c =
-    let es = c.args.list.now in
-    let e : c.loop-unknown.unknown ≡ length es = omega arith in
-    record {
-      sweeps = λ h. record { values = c.loop-unknown.invariant.0 h ∙ ap (λ (k : ℕ). swept g.K.Kind.ops (chosen (g.B.Book.meaning c.args.book.now) (choices es)) (values es) k) e };
-      strategy = c.loop-unknown.invariant.1;
-      still = c.loop-unknown.invariant.2;
-    }
