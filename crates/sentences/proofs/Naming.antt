@@ -1,9 +1,8 @@
 -- Names looked up in lists.
-use Rattle.std.proofs.Common.{subst, nat_lt, ◌≡◌, ℕ, zero, suc, ◌+◌, ◌<◌, ◌≤◌, Bool, true, false, ◌||◌, leb, List, [], ◌∷◌, ◌++◌, map, length, get_or, is_some, Some, None, vec_items, Option, sym, refl, ap, ◌∙◌, arith}
+use Rattle.std.proofs.Common.{subst, nat_lt, ◌≡◌, ℕ, suc, ◌+◌, Bool, true, false, ◌||◌, leb, List, [], ◌∷◌, ◌++◌, map, length, is_some, Some, None, vec_items, Option, sym, refl, ap, ◌∙◌, arith}
 use Rattle.std.proofs.lemmas.Bool.Decides.{nat_tests}
 use Rattle.std.specs.List.{position, position_or_len}
 use Rattle.words.specs.Words.{same, among}
-use Rattle.language.specs.Graphs as graphs
 use Rattle.language.specs.Graphs.{var_names, table_names, number_of}
 use Rattle.sentences.specs.Models.{LooksUp, variable_of, table_of}
 use Rattle.sentences.specs.declared.Variable.{Variable}
@@ -57,27 +56,6 @@ names_of_tables xs ts e = ap (map (λ (t : Table). vec_items t.name)) e ∙ sym 
 pub is_there : (n : List ℕ) (ns ms : List (List ℕ)) → ns ≡ ms → (o : Option ℕ) → LooksUp n ns o → is_some o ≡ among n ms
 is_there n ns ms e None h = sym (ap (among n) (sym e) ∙ h)
 is_there n ns ms e (Some i) h = sym (ap (among n) (sym e) ∙ h.0)
-
--- a table by its number
-get_d_map : {A B : Type 0} (f : A → B) (xs : List A) (i : ℕ) (x : A) (d : B) → i < length xs → get_or (map f xs) i d ≡ f (get_or xs i x)
-get_d_map f [] i x d h = absurd (omega arith)
-get_d_map f (y ∷ xs) zero x d h = refl
-get_d_map f (y ∷ xs) (suc i) x d h = get_d_map f xs i x d (omega arith)
-
-get_d_past : {A B : Type 0} (f : A → B) (xs : List A) (i : ℕ) (d : B) → length xs ≤ i → get_or (map f xs) i d ≡ d
-get_d_past f [] i d h = get_or_nil i d
-  where
-    get_or_nil : {B : Type 0} (i : ℕ) (d : B) → get_or [] i d ≡ d
-    get_or_nil zero d = refl
-    get_or_nil (suc i) d = refl
-get_d_past f (y ∷ xs) zero d h = absurd (omega arith)
-get_d_past f (y ∷ xs) (suc i) d h = get_d_past f xs i d (omega arith)
-
-pub table_at : (xs ts : List Table) → xs ≡ ts → (i : ℕ) (t : Table) → i < length xs → t ≡ get_or xs i t → get_or (map table_of ts) i graphs.no_table ≡ table_of t
-table_at xs ts e i t h f = ap (λ (z : List Table). get_or (map table_of z) i graphs.no_table) (sym e) ∙ get_d_map table_of xs i t graphs.no_table h ∙ ap table_of (sym f)
-
-pub table_none : (xs ts : List Table) → xs ≡ ts → (i : ℕ) → length xs ≤ i → get_or (map table_of ts) i graphs.no_table ≡ graphs.no_table
-table_none xs ts e i h = ap (λ (z : List Table). get_or (map table_of z) i graphs.no_table) (sym e) ∙ get_d_past table_of xs i graphs.no_table h
 
 map_snoc : {A B : Type 0} (f : A → B) (xs : List A) (x : A) → map f (xs ++ (x ∷ [])) ≡ map f xs ++ (f x ∷ [])
 map_snoc f [] x = refl

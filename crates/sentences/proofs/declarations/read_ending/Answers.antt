@@ -21,15 +21,3 @@ pub returns-in_err-mark-2 : goal.returns-in_err-mark-2
 returns-in_err-mark-2 c =
     handed_on _ _ c.from_residual-in_err-mark-2.result _ c.from_residual-in_err-mark-2.ensures.1
     (turns (refuses_ending_last c.in_ok-mark.ensures c.in_ok-range.ensures _) c.in_err-mark-2.ensures)
-
-pub returns : goal.returns
-returns c =
-    record {
-      equals = _;
-      semicolon = _;
-      behind_equals = _;
-      behind_range = _;
-      opens = c.in_ok-mark.ensures;
-      range = c.in_ok-range.ensures;
-      closes = c.in_ok-mark-2.ensures;
-    }
