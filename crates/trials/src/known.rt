@@ -1,10 +1,10 @@
 // Systems whose rounds and values are known.
 use crate::limits::Checks;
-use crate::lives::{MOST_ROUNDS, blank};
+use crate::lives::blank;
 use books::Book;
 use kinds::Kind;
 use refusal::Refusal;
-use solver::Analysis;
+use solver::{Analysis, MOST_ROUNDS};
 use std::alloc::Global;
 use worked::{CopiedGrade, Depth, SinkingBook, System};
 

@@ -1,12 +1,12 @@
 // What an analysis does at its limits.
 ghost use Rattle.std.specs.Prelude.{◌≡◌, ◌<◌, true, false, Some, None, MatchResult};
 
-use crate::lives::{MOST_ROUNDS, look};
+use crate::lives::look;
 use books::Entry;
 use chance::Chance;
 use kinds::Bound;
 use refusal::{Reason, Refusal};
-use solver::Analysis;
+use solver::{Analysis, MOST_ROUNDS};
 use std::alloc::Global;
 use std::fmt;
 use worked::System;

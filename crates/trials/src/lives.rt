@@ -3,11 +3,8 @@ use crate::levels::{Level, Plain};
 use books::{Book, Entry};
 use kinds::Kind;
 use refusal::Refusal;
-use solver::{Analysis, Progress};
+use solver::{Analysis, MOST_ROUNDS, Progress};
 use std::alloc::Global;
-
-// The largest budget of a run.
-pub const MOST_ROUNDS: usize = 65535;
 
 // More runs than any drawn book takes.
 const MOST_RUNS: usize = 1000;
