@@ -107,8 +107,10 @@ impl<'a, K: Kind> Analysis<'a, K> {
     fn entry_at(&self, unknown: usize) -> Result<Entry<K>, Refusal>
         ensures { MatchResult result (λ e. (unknown < length self.now.list.now) × (e ≡ slice_index_or self.now.list.now unknown e)) (λ e. (length self.now.list.now ≤ unknown) × (e ≡ nowhere NotThere)) }
     {
-        let entry = self.list.get(unknown).copied();
-        entry.ok_or(Refusal::unplaced(Reason::NotThere))
+        self.list
+            .get(unknown)
+            .copied()
+            .ok_or(Refusal::unplaced(Reason::NotThere))
     }
 
     // The value of an unknown.

@@ -1,5 +1,5 @@
 -- improvement of a strategy in the list of entries, one unknown after another
-use Rattle.std.proofs.Common.{◌≡◌, ℕ, ◌+◌, ◌<◌, ◌≤◌, Bool, true, false, cond, not, ◌||◌, ◌↔◌, MatchBool, List, [], length, get_or, set, None, Option, sym, refl, ap, ◌∙◌, subst, true≢false, not-suc-le-zero, arith, get_or-set_other, get_or-set_same}
+use Rattle.std.proofs.Common.{◌≡◌, ℕ, ◌+◌, ◌<◌, ◌≤◌, Bool, true, false, cond, not, ◌||◌, ◌↔◌, MatchBool, List, [], length, get_or, set, None, Option, sym, refl, ap, ◌∙◌, subst, true≢false, arith, get_or-set_other, get_or-set_same}
 use mathlib.Core.Bool.{false≢true}
 use native.Mathlib.Decide.{ℕ_discrete}
 use Rattle.std.specs.List.{AllWithin, HoldsAt, enumerate_from}
@@ -76,9 +76,6 @@ module _ {V W : Type 0} (o : Ops V W) (l : Laws o) (m : List (List (Alternative 
     pub ahead : (j : ℕ) → i ≤ j → get_or (choices es) j None ≡ get_or (choices es₀) j None
     pub none : t ≡ false → (j : ℕ) → j < i → Le o (right o m (values es₀) j) (at o (values es₀) j)
     pub some : t ≡ true → ((j : ℕ) → j < i → Le o (right o m (values es₀) j) (at o (values es₀) j)) → ⊥
-
-  pub improving_none : (es : List (Entry V)) → Improving es 0 false es
-  improving_none es = record { kept = refl; done = λ j h. absurd (not-suc-le-zero h); ahead = λ j h. refl; none = λ e j h. absurd (not-suc-le-zero h); some = λ e. absurd (false≢true e) }
 
   module _ (es₀ : List (Entry V)) (i : ℕ) (t : Bool) (es es' : List (Entry V)) (p : Improving es₀ i t es) (lt : i < length es) (r : Bool) (q : Switches o m es i r es') where
     same : switched o m (values es) (choices es) i ≡ switched o m (values es₀) (choices es₀) i

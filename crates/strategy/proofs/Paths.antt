@@ -93,9 +93,6 @@ module _ {V W : Type 0} (o : Ops V W) (l : Laws o) (m : List (List (Alternative 
     pub values : Well o m → length es₀ ≡ length m → values es₀ ≡ opening o (chosen m (choices es₀)) (length m) → k ≤ length m →
         values es ≡ sweeps o (chosen m (choices es₀)) (length m) (opening o (chosen m (choices es₀)) (length m)) k
 
-  pub swept_none : (es : List (Entry V)) → Swept es 0 es
-  swept_none es = record { strategy = refl; values = λ well len e h. e }
-
   module _ (es₀ : List (Entry V)) (k : ℕ) (es es' : List (Entry V)) (p : Swept es₀ k es) (long : length es ≡ length es₀) (f : ShortSweep o m es → SweepsAll o m es es') where
     module _ (well : Well o m) (len : length es₀ ≡ length m) (e : values es₀ ≡ opening o (chosen m (choices es₀)) (length m)) (h : k ≤ length m) where
       -- one more sweep

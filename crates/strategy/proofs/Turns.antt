@@ -1,5 +1,5 @@
 -- the rounds of a run in the list of entries
-use Rattle.std.proofs.Common.{◌≡◌, ℕ, suc, ◌+◌, ◌-◌, ◌<◌, Bool, true, ◌⊎◌, ◌↔◌, List, [], ◌∷◌, length, Option, sym, refl, ap, ◌∙◌, subst, inl, inr, true≢false, add-one, arith}
+use Rattle.std.proofs.Common.{◌≡◌, ℕ, suc, ◌+◌, ◌-◌, ◌<◌, true, ◌⊎◌, List, [], ◌∷◌, length, Option, sym, refl, ap, ◌∙◌, subst, inl, inr, add-one, arith}
 use native.Mathlib.Decide.{dec_lt}
 use Rattle.std.proofs.lemmas.List.{length-map, length-replicate, get_or-replicate, get_or_past}
 use Rattle.kinds.specs.Limits.{most_items}
@@ -14,7 +14,7 @@ use Rattle.books.proofs.Sizes.{made_more}
 use Rattle.strategy.specs.Solving.{improved, Values, Stage, Settled, Unsettled, Rounds}
 use Rattle.strategy.specs.Solving.Rounds.{start, round}
 use Rattle.strategy.specs.Theory.{none_chosen, all_least}
-use Rattle.strategy.specs.Steps.{ImprovesAll, Evaluates, Ready, Counts, Ran}
+use Rattle.strategy.specs.Steps.{ImprovesAll, Evaluates, Ready, Counts}
 use Rattle.strategy.proofs.Stands.{stands}
 use Rattle.strategy.proofs.Ends.{after_is}
 use Rattle.strategy.proofs.Chains.{rounds_stage}
@@ -66,10 +66,3 @@ module _ {V W : Type 0} (o : Ops V W) (l : Laws o) (m : List (List (Alternative 
       stage = subst (λ (s : List (Option ℕ)). Stage o m s (values es'')) (sym (e ∙ i.choice)) (((stands o l m well).rounds (choices es) (values es) r.stage).stage (values es'') now_values);
       short = short_next (choices es) (values es) (values es'') r.stage now_values;
     }
-
-  -- the end of a run: nothing switched, or the budget is used
-  pub ran_settled : (b : ℕ) (es₀ : List (Entry V)) (k : ℕ) (es es' : List (Entry V)) → Counts o m es₀ k es → Settled o m (values es) → es' ≡ es → Ran o m b es₀ k true es'
-  ran_settled b es₀ k es es' c h e = subst (λ (ds : List (Entry V)). Ran o m b es₀ k true ds) (sym e) (record { counts = c; said = (λ q. h, λ q. refl); whole = λ q. absurd (true≢false q) })
-
-  pub ran_used : (b : ℕ) (es₀ : List (Entry V)) (k : ℕ) (t : Bool) (es : List (Entry V)) → Counts o m es₀ k es → k ≡ b → (t ≡ true) ↔ Settled o m (values es) → Ran o m b es₀ k t es
-  ran_used b es₀ k t es c e said = record { counts = c; said = said; whole = λ q. e }
