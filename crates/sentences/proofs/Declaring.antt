@@ -15,7 +15,7 @@ use Rattle.language.specs.Readings.{Refuses, Anywhere, Over, Quiet, is_span, Sta
 use Rattle.language.specs.Readings.New.{new_variable, new_table}
 use Rattle.language.proofs.Heads.{new_decides}
 use Rattle.language.proofs.Passing.{decided_word}
-use Rattle.sentences.specs.Models.{ending, sizing, Sizing}
+use Rattle.sentences.specs.Scripts.{ending, sizing, Sizing}
 
 quiet : (p : Place) (past : List Word) → Quiet (mark Equals p ∷ past)
 quiet p past = record { minus = refl; dots = refl; bracket = refl }

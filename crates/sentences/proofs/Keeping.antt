@@ -5,7 +5,8 @@ use Rattle.words.specs.Words.{Text}
 use Rattle.language.specs.Graphs.{Variable, Table, Drawing}
 use Rattle.language.specs.Expected.{Expect}
 use Rattle.language.specs.Readings.{TurnsBack}
-use Rattle.sentences.specs.Models.{Past, vars_of, tabs_of}
+use Rattle.sentences.specs.Models.{vars_of, tabs_of}
+use Rattle.sentences.specs.Scripts.{Past}
 use Rattle.sentences.specs.declared.names.Names.{Names}
 
 module _ {m n : Names} (e : m ≡ n) where

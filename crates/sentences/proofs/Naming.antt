@@ -1,6 +1,7 @@
 -- Names looked up in lists.
 use Rattle.std.proofs.Common.{subst, nat_lt, ◌≡◌, ℕ, suc, ◌+◌, Bool, true, false, ◌||◌, leb, List, [], ◌∷◌, ◌++◌, map, length, is_some, Some, None, vec_items, Option, sym, refl, ap, ◌∙◌, arith}
 use Rattle.std.proofs.lemmas.Bool.Decides.{nat_tests}
+use Rattle.std.proofs.lemmas.List.{map-append, length-map}
 use Rattle.std.specs.List.{position, position_or_len}
 use Rattle.words.specs.Words.{same, among}
 use Rattle.language.specs.Graphs.{var_names, table_names, number_of}
@@ -18,8 +19,7 @@ table_names_map [] = refl
 table_names_map (t ∷ ts) = ap (λ (z : List (List ℕ)). vec_items t.name ∷ z) (table_names_map ts)
 
 pub length_of : {A B : Type 0} (f : A → B) (xs : List A) → length (map f xs) ≡ length xs
-length_of f [] = refl
-length_of f (x ∷ xs) = ap suc (length_of f xs)
+length_of f xs = length-map xs f
 
 -- the first that is it, by its place among the things that have the names
 module _ {A : Type 0} (f : A → List ℕ) (n : List ℕ) where
@@ -57,18 +57,9 @@ pub is_there : (n : List ℕ) (ns ms : List (List ℕ)) → ns ≡ ms → (o : O
 is_there n ns ms e None h = sym (ap (among n) (sym e) ∙ h)
 is_there n ns ms e (Some i) h = sym (ap (among n) (sym e) ∙ h.0)
 
-map_snoc : {A B : Type 0} (f : A → B) (xs : List A) (x : A) → map f (xs ++ (x ∷ [])) ≡ map f xs ++ (f x ∷ [])
-map_snoc f [] x = refl
-map_snoc {A} {B} f (y ∷ xs) x = ap (λ (z : List B). f y ∷ z) (map_snoc f xs x)
-
--- one variable more, one table more
-pub more_variables : (xs ys : List Variable) (x : Variable) (n : List ℕ) → ys ≡ xs ++ (x ∷ []) → vec_items x.name ≡ n →
-    map variable_of ys ≡ map variable_of xs ++ (record { name = n; range = x.range } ∷ [])
-more_variables xs ys x n e f = ap (map variable_of) e ∙ map_snoc variable_of xs x ∙ ap (λ (m : List ℕ). map variable_of xs ++ (record { name = m; range = x.range } ∷ [])) f
-
-pub more_tables : (xs ys : List Table) (x : Table) (n : List ℕ) → ys ≡ xs ++ (x ∷ []) → vec_items x.name ≡ n →
-    map table_of ys ≡ map table_of xs ++ (record { name = n; size = x.size; range = x.range } ∷ [])
-more_tables xs ys x n e f = ap (map table_of) e ∙ map_snoc table_of xs x ∙ ap (λ (m : List ℕ). map table_of xs ++ (record { name = m; size = x.size; range = x.range } ∷ [])) f
+-- one variable more, or one table more
+pub one_more : {A B : Type 0} (f : A → B) (xs ys : List A) (x : A) (y : B) → ys ≡ xs ++ (x ∷ []) → f x ≡ y → map f ys ≡ map f xs ++ (y ∷ [])
+one_more {B = B} f xs ys x y e h = ap (map f) e ∙ map-append f xs (x ∷ []) ∙ ap (λ (z : B). map f xs ++ (z ∷ [])) h
 
 -- as many as are counted
 pub counted : {A B : Type 0} (f : A → B) (xs : List A) (n : ℕ) → n ≡ length xs → leb 8 (length (map f xs)) ≡ leb 8 n

@@ -3,7 +3,8 @@ ghost use Rattle.std.specs.Prelude.{◌≡◌, [], ◌∷◌, MatchResult};
 ghost use Rattle.language.specs.Grammar as grammar;
 ghost use Rattle.language.specs.Expected.Expect.{condition, operator, operand};
 ghost use Rattle.language.specs.Readings.{Anywhere, TurnsBack, Over, KnowsAsks, is_operator, is_operand, is_condition};
-ghost use Rattle.sentences.specs.Models.{left as left_of, Reads, Halts, BehindOrder, order_of, operand_in, condition_in, guard_of, opposite_of, SmallOperand};
+ghost use Rattle.sentences.specs.Models.{left as left_of, order_of, guard_of, opposite_of, SmallOperand};
+ghost use Rattle.sentences.specs.Scripts.{Reads, Halts, BehindOrder, operand_in, condition_in};
 
 use crate::names::same_name;
 use crate::script::Script;
@@ -95,37 +96,31 @@ impl Order {
 }
 
 impl Condition {
-    // The guard of the edge on which the condition holds.
+    // The guard of the edge on which the condition holds; a strict comparison with a constant moves it by one.
     pub(crate) fn holds(self) -> Action
         ensures { SmallOperand self.right → result ≡ guard_of self.left self.order self.right }
     {
-        guard(self.left, self.order, self.right)
+        let i = self.left;
+        match (self.order, self.right) {
+            (Order::Below, Operand::Against(k)) => Action::Before(i, k, -1),
+            (Order::AtMost, Operand::Against(k)) => Action::Before(i, k, 0),
+            (Order::Above, Operand::Against(k)) => Action::Before(k, i, -1),
+            (Order::AtLeast, Operand::Against(k)) => Action::Before(k, i, 0),
+            (Order::Below, Operand::Limit(c)) => Action::AtMost(i, c.saturating_sub(1)),
+            (Order::AtMost, Operand::Limit(c)) => Action::AtMost(i, c),
+            (Order::Above, Operand::Limit(c)) => Action::AtLeast(i, c.saturating_add(1)),
+            (Order::AtLeast, Operand::Limit(c)) => Action::AtLeast(i, c),
+        }
     }
 
     // The guard of the edge on which it fails.
     pub(crate) fn fails(self) -> Action
         ensures { SmallOperand self.right → result ≡ guard_of self.left (opposite_of self.order) self.right }
     {
-        guard(self.left, self.order.opposite(), self.right)
-    }
-}
-
-// The guard of a comparison; a strict one against a constant moves it by one.
-fn guard(i: usize, order: Order, right: Operand) -> Action
-    ensures { SmallOperand right → result ≡ guard_of i order right }
-{
-    match right {
-        Operand::Against(k) => match order {
-            Order::Below => Action::Before(i, k, -1),
-            Order::AtMost => Action::Before(i, k, 0),
-            Order::Above => Action::Before(k, i, -1),
-            Order::AtLeast => Action::Before(k, i, 0),
-        },
-        Operand::Limit(c) => match order {
-            Order::Below => Action::AtMost(i, c.saturating_sub(1)),
-            Order::AtMost => Action::AtMost(i, c),
-            Order::Above => Action::AtLeast(i, c.saturating_add(1)),
-            Order::AtLeast => Action::AtLeast(i, c),
-        },
+        let opposite = Condition {
+            order: self.order.opposite(),
+            ..self
+        };
+        opposite.holds()
     }
 }

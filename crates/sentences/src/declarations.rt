@@ -7,7 +7,8 @@ ghost use Rattle.language.specs.Graphs.{var_names, table_names};
 ghost use Rattle.language.specs.Expected.Expect.{just, heads};
 ghost use Rattle.language.specs.Expected.Terminal.{any_name};
 ghost use Rattle.language.specs.Readings.{begins_declaration, TurnsBack, Anywhere, AtStart, Declared, varying, tabling};
-ghost use Rattle.sentences.specs.Models.{left, vars_of, tabs_of, Halts, NewAt, StartsAt, Declares, Sizing, sizing, Ending, ending, IsNew};
+ghost use Rattle.sentences.specs.Models.{left, vars_of, tabs_of};
+ghost use Rattle.sentences.specs.Scripts.{Halts, NewAt, StartsAt, Declares, Sizing, sizing, Ending, ending, IsNew};
 
 use crate::script::Script;
 use crate::sentence::Sentence;

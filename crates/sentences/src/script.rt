@@ -1,7 +1,8 @@
 // A script as it is read.
 ghost use Rattle.std.specs.Prelude.{◌≡◌};
 ghost use Rattle.words.specs.Words.{text};
-ghost use Rattle.sentences.specs.Models.{left, IsNew};
+ghost use Rattle.sentences.specs.Models.{left};
+ghost use Rattle.sentences.specs.Scripts.{IsNew};
 
 use crate::names::Names;
 use crate::sentence::Sentence;

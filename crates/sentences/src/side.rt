@@ -6,13 +6,22 @@ ghost use Rattle.language.specs.Expected.{one};
 ghost use Rattle.language.specs.Expected.Expect.{just, span, right, behind_minus};
 ghost use Rattle.language.specs.Expected.Terminal.{any_name};
 ghost use Rattle.language.specs.Readings.{first_names, TurnsBack, Over, Quiet, KnowsNegates, is_span, is_right, is_negative, is_index};
-ghost use Rattle.sentences.specs.Models.{left, Reads, Halts, BehindMark, variable_in, side_in};
+ghost use Rattle.sentences.specs.Models.{left};
+ghost use Rattle.sentences.specs.Scripts.{Reads, Halts, BehindMark, variable_in, side_in};
 
 use crate::script::Script;
 use crate::sentence::{Sentence, negative};
 use language::{Range, Source};
 use refusal::{Place, Reason, Refusal};
 use words::Mark;
+
+// A table read: the numbers of the table and of the variable that is its index, and the place of the index.
+#[derive(Clone, Copy)]
+pub struct Reading {
+    pub table: usize,
+    pub index: usize,
+    pub place: Place,
+}
 
 // A right side, by the numbers of its variables and tables.
 #[derive(Clone, Copy)]
@@ -21,7 +30,7 @@ pub enum Side {
     Shifted(usize, i64),
     Negated(usize),
     Any(Source, Range),
-    Reading(usize, usize, Place),
+    Entry(Reading),
 }
 
 // Takes const .. const.
@@ -78,8 +87,12 @@ impl<'a> Script<'a> {
         let (name, place) = self.sentence.name()?;
         if self.sentence.accept(Mark::OpenBracket) {
             let table = self.names.table(name, place)?;
-            let (index, at) = self.read_index()?;
-            return Ok(Side::Reading(table, index, at));
+            let (index, place) = self.read_index()?;
+            return Ok(Side::Entry(Reading {
+                table,
+                index,
+                place,
+            }));
         }
         let i = self.names.variable(name, place)?;
         if self.sentence.accept(Mark::Plus) {

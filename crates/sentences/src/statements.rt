@@ -2,7 +2,8 @@
 ghost use Rattle.std.specs.Prelude.{◌≡◌, ℕ, true, false, [], ◌∷◌, MatchResult};
 ghost use Rattle.language.specs.Expected.Expect.{body, block, else_part};
 ghost use Rattle.language.specs.Readings.{begins_statement, Stated, Statement, Blocked, Elsed, assigning, choosing, repeating};
-ghost use Rattle.sentences.specs.Models.{left, Halts, Writes, StartsAt, InnerAt};
+ghost use Rattle.sentences.specs.Models.{left};
+ghost use Rattle.sentences.specs.Scripts.{Halts, Writes, StartsAt, InnerAt};
 
 use crate::drawing::Drawing;
 use crate::script::Script;

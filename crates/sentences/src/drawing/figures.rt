@@ -3,11 +3,11 @@ ghost use Rattle.std.specs.Prelude.{◌≡◌, MatchResult};
 ghost use Rattle.refusal.specs.Reasons.{no_memory};
 ghost use Rattle.language.specs.Readings.{joined_at};
 ghost use Rattle.sentences.specs.Models.{vars_of, tabs_of, drawn_so, assigned};
-ghost use Rattle.sentences.specs.declared.side.Side.TheVariants.{Reading};
+ghost use Rattle.sentences.specs.declared.side.Side.TheVariants.{Entry};
 
 use crate::drawing::Drawing;
 use crate::names::Names;
-use crate::side::Side;
+use crate::side::{Reading, Side};
 use language::{Action, Range, Source};
 use refusal::{Place, Refusal};
 
@@ -18,14 +18,13 @@ impl Drawing {
         names: &Names,
         place: Place,
         k: usize,
-        table: usize,
-        index: usize,
-        at: Place,
+        reading: Reading,
     ) -> Result<(), Refusal>
-        ensures { MatchResult result (λ _. drawn_so self.new ≡ assigned (vars_of names.now) (tabs_of names.now) place k (Reading table index at) (drawn_so self.old)) (λ e. e ≡ no_memory) }
+        ensures { MatchResult result (λ _. drawn_so self.new ≡ assigned (vars_of names.now) (tabs_of names.now) place k (Entry reading) (drawn_so self.old)) (λ e. e ≡ no_memory) }
     {
-        let (size, range) = names.shape(table);
-        self.note(index, table, at)?;
+        let (size, range) = names.shape(reading.table);
+        let index = reading.index;
+        self.note(reading)?;
         self.onward(Action::AtLeast(index, 0), place)?;
         self.onward(Action::AtMost(index, i64::from(size) - 1), place)?;
         self.onward(Action::Read(k, index, range), place)
@@ -49,7 +48,7 @@ impl Drawing {
             Side::Shifted(i, c) => self.onward(Action::Shift(k, i, c), place),
             Side::Negated(i) => self.onward(Action::Negate(k, i), place),
             Side::Any(source, range) => self.onward(Action::Any(k, range, source), place),
-            Side::Reading(table, index, at) => self.look_up(names, place, k, table, index, at),
+            Side::Entry(reading) => self.look_up(names, place, k, reading),
         }
     }
 

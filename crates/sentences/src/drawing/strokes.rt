@@ -6,6 +6,7 @@ ghost use Rattle.language.specs.declared.Action.TheVariants.{Skip};
 ghost use Rattle.sentences.specs.Models.{drawn_so};
 
 use crate::drawing::Drawing;
+use crate::side::Reading;
 use language::{Action, Edge, Lookup};
 use refusal::{Place, Refusal};
 use std::alloc::Global;
@@ -62,14 +63,14 @@ impl Drawing {
     }
 
     // A table read from here.
-    pub(crate) fn note(&mut self, index: usize, table: usize, place: Place) -> Result<(), Refusal>
-        ensures { MatchResult result (λ _. drawn_so self.new ≡ noted (record { point = self.old.here; index = index; table = table; place = place }) (drawn_so self.old)) (λ e. e ≡ no_memory) }
+    pub(crate) fn note(&mut self, reading: Reading) -> Result<(), Refusal>
+        ensures { MatchResult result (λ _. drawn_so self.new ≡ noted (record { point = self.old.here; index = reading.index; table = reading.table; place = reading.place }) (drawn_so self.old)) (λ e. e ≡ no_memory) }
     {
         self.lookups.push(Lookup {
             point: self.here,
-            index,
-            table,
-            place,
+            index: reading.index,
+            table: reading.table,
+            place: reading.place,
         })?;
         Ok(())
     }

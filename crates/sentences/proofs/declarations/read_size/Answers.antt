@@ -6,7 +6,7 @@ use Rattle.language.specs.Expected.Expect.{just}
 use Rattle.language.specs.Expected.Terminal.{any_number}
 use Rattle.language.specs.Readings.{Anywhere}
 use Rattle.language.proofs.Turning.{turns, turns_at}
-use Rattle.sentences.specs.Models.{sizing}
+use Rattle.sentences.specs.Scripts.{sizing}
 use Rattle.sentences.proofs.Exits.{handed_on}
 use Rattle.sentences.proofs.Declaring.{refuses_size_number, size_decides, refuses_size_last}
 use Rattle.sentences.proofs.declarations.read_size.Goals as goal

@@ -1,7 +1,8 @@
 use Rattle.std.proofs.Common.{length}
 use Rattle.language.specs.Rules.{words}
 use Rattle.language.specs.Readings.{Declared}
-use Rattle.sentences.specs.Models.{left, vars_of, tabs_of, IsNew}
+use Rattle.sentences.specs.Models.{left, vars_of, tabs_of}
+use Rattle.sentences.specs.Scripts.{IsNew}
 use Rattle.sentences.proofs.script.Script.read_declarations.Given as goal
 
 -- the words from the start of the text on are declarations of these names

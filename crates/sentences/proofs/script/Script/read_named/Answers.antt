@@ -9,7 +9,7 @@ use Rattle.language.specs.Readings.Shifts.{plus, minus}
 use Rattle.language.proofs.Turning.{turns, turns_at}
 use Rattle.language.proofs.Sides.{refuses_named, named_decides, table_decides, side_copy, side_shifted, refuses_shifted, side_reading, refuses_reading}
 use Rattle.sentences.specs.Models.{left, vars_of, tabs_of}
-use Rattle.sentences.specs.declared.side.Side.TheVariants.{Reading, Shifted}
+use Rattle.sentences.specs.declared.side.Side.TheVariants.{Entry, Shifted}
 use Rattle.std.proofs.lemmas.Int.{to_z-of_z}
 use Rattle.sentences.proofs.Exits.{handed_on}
 use Rattle.sentences.proofs.script.Script.read_named.Goals as goal
@@ -44,9 +44,9 @@ returns-then-accept c =
     let b = sym c.if-accept.ensures.is in
     let m = c.if-accept.ensures.passed in
     let i = c.in_ok-index.ensures in (
-      reading c.in_ok-name.name.now i.0 c.in_ok-index.at,
-      (λ j. Reading (h.1 j) (i.1 j) c.in_ok-index.at),
-      (side_reading (vars_of n) (tabs_of n) c.in_ok-name.ensures b h.0 m.1 i.0 c.in_ok-index.at _ i.2.0, i.2.1),
+      reading c.in_ok-name.name.now i.0 c.in_ok-index.place,
+      (λ j. Entry (record { table = h.1 j; index = i.1 j; place = c.in_ok-index.place })),
+      (side_reading (vars_of n) (tabs_of n) c.in_ok-name.ensures b h.0 m.1 i.0 c.in_ok-index.place _ i.2.0, i.2.1),
     )
 
 pub returns-in_err-i : goal.returns-in_err-i

@@ -3,11 +3,12 @@ use Rattle.language.specs.Expected.Expect.{just}
 use Rattle.language.specs.Expected.Terminal.{any_name}
 use Rattle.language.proofs.Turning.{turns}
 use Rattle.language.proofs.Heads.{refuses_table_name, declares_table}
-use Rattle.sentences.specs.Models.{vars_of, tabs_of, table_of, sizing, ending}
+use Rattle.sentences.specs.Models.{vars_of, tabs_of, table_of}
+use Rattle.sentences.specs.Scripts.{sizing, ending}
 use Rattle.sentences.specs.declared.names.Names.{Names}
 use Rattle.sentences.specs.declared.Table.{Table}
 use Rattle.sentences.proofs.Exits.{handed_on}
-use Rattle.sentences.proofs.Naming.{counted, more_tables}
+use Rattle.sentences.proofs.Naming.{counted, one_more}
 use Rattle.sentences.proofs.Declaring.{refuses_table_size, refuses_table_ending}
 use Rattle.sentences.proofs.script.Script.read_table.Goals as goal
 
@@ -48,5 +49,5 @@ returns c =
     let i = counted table_of (vec_items n.tables) c.len-count.result (c.len-count.ensures ∙ n.tables.ok.0) ∙ w.3 in
     let t : Table = record { name = c.in_ok-name-2.name; size = c.in_ok-size.size; range = c.in_ok-range.range } in
     declares_table (vars_of n) (tabs_of n) c.in_ok-mark.ensures w.1 w.2 i z.opens z.size z.fits z.closes x.opens x.range _ _ x.closes _
-    (more_tables (vec_items n.tables) (vec_items c.push.new.self) t c.in_ok-name.name.now
-    (c.in_ok-push.ensures.items ∙ ap (λ (m : Names). vec_items m.tables ++ (t ∷ [])) w.4) c.in_ok-name-2.ensures.items) _ (ap vars_of w.4)
+    (one_more table_of (vec_items n.tables) (vec_items c.push.new.self) t _
+    (c.in_ok-push.ensures.items ∙ ap (λ (m : Names). vec_items m.tables ++ (t ∷ [])) w.4) (λ i. record { name = c.in_ok-name-2.ensures.items i; size = c.in_ok-size.size; range = c.in_ok-range.range })) _ (ap vars_of w.4)

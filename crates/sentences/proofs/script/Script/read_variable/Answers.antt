@@ -3,11 +3,12 @@ use Rattle.language.specs.Expected.Expect.{just}
 use Rattle.language.specs.Expected.Terminal.{any_name}
 use Rattle.language.proofs.Turning.{turns}
 use Rattle.language.proofs.Heads.{refuses_variable_name, declares_variable}
-use Rattle.sentences.specs.Models.{vars_of, tabs_of, variable_of, ending}
+use Rattle.sentences.specs.Models.{vars_of, tabs_of, variable_of}
+use Rattle.sentences.specs.Scripts.{ending}
 use Rattle.sentences.specs.declared.names.Names.{Names}
 use Rattle.sentences.specs.declared.Variable.{Variable}
 use Rattle.sentences.proofs.Exits.{handed_on}
-use Rattle.sentences.proofs.Naming.{counted, more_variables}
+use Rattle.sentences.proofs.Naming.{counted, one_more}
 use Rattle.sentences.proofs.Declaring.{refuses_variable_ending}
 use Rattle.sentences.proofs.script.Script.read_variable.Goals as goal
 
@@ -39,5 +40,5 @@ returns c =
     let i = counted variable_of (vec_items n.variables) c.len-count.result (c.len-count.ensures ∙ n.variables.ok.0) ∙ w.3 in
     let v : Variable = record { name = c.in_ok-name-2.name; range = c.in_ok-range.range } in
     declares_variable (vars_of n) (tabs_of n) c.in_ok-mark.ensures w.1 w.2 i x.opens x.range _ _ x.closes _
-    (more_variables (vec_items n.variables) (vec_items c.push.new.self) v c.in_ok-name.name.now
-    (c.in_ok-push.ensures.items ∙ ap (λ (m : Names). vec_items m.variables ++ (v ∷ [])) w.4) c.in_ok-name-2.ensures.items) _ (ap tabs_of w.4)
+    (one_more variable_of (vec_items n.variables) (vec_items c.push.new.self) v _
+    (c.in_ok-push.ensures.items ∙ ap (λ (m : Names). vec_items m.variables ++ (v ∷ [])) w.4) (λ i. record { name = c.in_ok-name-2.ensures.items i; range = c.in_ok-range.range })) _ (ap tabs_of w.4)

@@ -11,7 +11,8 @@ use Rattle.language.specs.Readings.TurnsBack.{by_want}
 use Rattle.language.proofs.Turning.{turns, turns_at}
 use Rattle.language.proofs.Steps.{block_brace}
 use Rattle.language.proofs.Bodies.{stated_none, stated_then, shorter, body_assigning, body_choosing, body_repeating, refuses_level, refuses_inside, refuses_brace, blocked, elsed_none, elsed_some, refuses_else, refuses_if, refuses_first, refuses_second, stated_choice, refuses_while, refuses_loop, stated_loop}
-use Rattle.sentences.specs.Models.{left, vars_of, tabs_of, drawn_so, StartsAt, InnerAt}
+use Rattle.sentences.specs.Models.{left, vars_of, tabs_of, drawn_so}
+use Rattle.sentences.specs.Scripts.{StartsAt, InnerAt}
 use Rattle.sentences.proofs.Keeping.{at_names, halts_at}
 use Rattle.sentences.proofs.Exits.{handed_on}
 use Rattle.sentences.proofs.Guarding.{holds_as, fails_as}

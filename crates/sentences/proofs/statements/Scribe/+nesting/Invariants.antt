@@ -1,7 +1,8 @@
 use Rattle.std.proofs.Common.{◌+◌, ◌*◌, length}
 use Rattle.language.specs.Rules.{words}
 use Rattle.language.specs.Readings.{Stated}
-use Rattle.sentences.specs.Models.{left, Writes}
+use Rattle.sentences.specs.Models.{left}
+use Rattle.sentences.specs.Scripts.{Writes}
 use Rattle.sentences.proofs.statements.Scribe.+nesting.Given as goal
 
 abbrev pub decreases-read_block : goal.decreases-read_block
