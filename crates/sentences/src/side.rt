@@ -95,6 +95,7 @@ impl<'a> Script<'a> {
             }));
         }
         let i = self.names.variable(name, place)?;
+        // Each sign by itself: one function for both would promise three outcomes, and say no more than this.
         if self.sentence.accept(Mark::Plus) {
             let (n, _) = self.sentence.number()?;
             return Ok(Side::Shifted(i, i64::from(n)));

@@ -7,7 +7,6 @@ use Rattle.language.specs.Expected.Terminal.{any_name}
 use Rattle.language.specs.Readings.{KnowsBehind}
 use Rattle.language.proofs.Turning.{turns, turns_at}
 use Rattle.language.proofs.Sides.{index_decides, index_over}
-use Rattle.sentences.specs.Models.{vars_of, tabs_of}
 use Rattle.sentences.proofs.Exits.{handed_on}
 use Rattle.sentences.proofs.script.Script.read_index.Goals as goal
 
@@ -18,21 +17,18 @@ returns-in_err-name c =
 
 pub returns-in_err-index : goal.returns-in_err-index
 returns-in_err-index c =
-    let n = c.args.self.now.names in
     let h = c.in_err-index.ensures in
     handed_on _ _ c.from_residual-in_err-index.result _ c.from_residual-in_err-index.ensures.1
-    (turns_at (just any_name ∷ one CloseBracket ∷ []) (KnowsBehind (vars_of n) (tabs_of n) OpenBracket) _ _ Undeclared _ h.1
-    (index_decides (vars_of n) (tabs_of n) false _ _ _ _ c.in_ok-name.ensures h.0))
+    (turns_at (just any_name ∷ one CloseBracket ∷ []) (KnowsBehind _ _ OpenBracket) _ _ Undeclared _ h.1
+    (index_decides _ _ false _ _ _ _ c.in_ok-name.ensures h.0))
 
 pub returns-in_err-mark : goal.returns-in_err-mark
 returns-in_err-mark c =
-    let n = c.args.self.now.names in
     let h = c.in_ok-index.ensures in
     handed_on _ _ c.from_residual-in_err-mark.result _ c.from_residual-in_err-mark.ensures.1
-    (turns (λ i k past y. index_decides (vars_of n) (tabs_of n) mathlib.Core.Bool.true _ _ _ _ c.in_ok-name.ensures h.0 k past y ∙ i k _ tt) c.in_err-mark.ensures)
+    (turns (λ i k past y. index_decides _ _ mathlib.Core.Bool.true _ _ _ _ c.in_ok-name.ensures h.0 k past y ∙ i k _ tt) c.in_err-mark.ensures)
 
 pub returns : goal.returns
 returns c =
-    let n = c.args.self.now.names in
     let h = c.in_ok-index.ensures in
-    (c.in_ok-name.name.now, h.1, (index_over (vars_of n) (tabs_of n) _ _ _ _ _ _ c.in_ok-name.ensures h.0 c.in_ok-mark.ensures, refl))
+    (c.in_ok-name.name.now, h.1, (index_over _ _ _ _ _ _ _ _ c.in_ok-name.ensures h.0 c.in_ok-mark.ensures, refl))

@@ -15,15 +15,14 @@ returns-in_err-name c =
 
 pub returns-then-has : goal.returns-then-has
 returns-then-has c =
-    let n = c.args.self.now.names in
     let full = leb 8 c.args.count in
-    turns_at (just any_name ∷ []) (New (vars_of n) (tabs_of n) full) _ _ DeclaredBefore _ c.at.ensures
-    (new_decides (vars_of n) (tabs_of n) true full _ _ _ _ c.in_ok-name.ensures (sym c.if-has.ensures))
+    turns_at (just any_name ∷ []) (New _ _ full) _ _ DeclaredBefore _ c.at.ensures
+    (new_decides _ _ true full _ _ _ _ c.in_ok-name.ensures (sym c.if-has.ensures))
 
 pub returns-then-count-ge-MOST_NAMES : goal.returns-then-count-ge-MOST_NAMES
 returns-then-count-ge-MOST_NAMES c =
     let n = c.args.self.now.names in
     let e : leb 8 c.args.count ≡ true = search rules in
-    turns_at (just any_name ∷ []) (New (vars_of n) (tabs_of n) (leb 8 c.args.count)) _ _ TooManyNames _ c.at-then-count-ge-MOST_NAMES.ensures
-    (λ k past y. new_decides (vars_of n) (tabs_of n) false true _ _ _ _ c.in_ok-name.ensures (sym c.if-has.ensures) k past
+    turns_at (just any_name ∷ []) (New _ _ (leb 8 c.args.count)) _ _ TooManyNames _ c.at-then-count-ge-MOST_NAMES.ensures
+    (λ k past y. new_decides _ _ false true _ _ _ _ c.in_ok-name.ensures (sym c.if-has.ensures) k past
     (subst (λ (b : Bool). New (vars_of n) (tabs_of n) b past) e y))

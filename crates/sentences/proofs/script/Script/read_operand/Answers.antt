@@ -6,51 +6,45 @@ use Rattle.language.specs.Expected.Expect.{operand}
 use Rattle.language.specs.Readings.{KnowsCompares, Constant}
 use Rattle.language.proofs.Turning.{turns, turns_at}
 use Rattle.language.proofs.Conditions.{against_decides, over_against, over_limit, refuses_against, refuses_limit}
-use Rattle.sentences.specs.Models.{left, vars_of, tabs_of, Small}
+use Rattle.sentences.specs.Models.{left, Small}
 use Rattle.sentences.specs.declared.condition.Operand.TheVariants.{Against}
 use Rattle.sentences.proofs.Exits.{handed_on}
 use Rattle.sentences.proofs.script.Script.read_operand.Goals as goal
 
 pub returns-in_err-name : goal.returns-in_err-name
 returns-in_err-name c =
-    let n = c.args.self.now.names in
     handed_on _ _ c.from_residual.result _ c.from_residual.ensures.1
-    (turns (refuses_against (vars_of n) (tabs_of n) c.args.left.now (left c.args.self.now.sentence) _ (sym c.if-at_name.ensures)) c.in_err-name.ensures)
+    (turns (refuses_against _ _ c.args.left.now (left c.args.self.now.sentence) _ (sym c.if-at_name.ensures)) c.in_err-name.ensures)
 
 pub returns-in_err-k : goal.returns-in_err-k
 returns-in_err-k c =
-    let n = c.args.self.now.names in
     let h = c.in_err-k.ensures in
     handed_on _ _ c.from_residual-in_err-k.result _ c.from_residual-in_err-k.ensures.1
-    (turns_at (operand ∷ []) (KnowsCompares (vars_of n) (tabs_of n) c.args.left.now) _ _ Undeclared _ h.1
-    (against_decides (vars_of n) (tabs_of n) c.args.left.now c.in_ok-name.name.now c.in_ok-name.place _ _ false _ c.in_ok-name.ensures h.0 refl))
+    (turns_at (operand ∷ []) (KnowsCompares _ _ c.args.left.now) _ _ Undeclared _ h.1
+    (against_decides _ _ c.args.left.now c.in_ok-name.name.now c.in_ok-name.place _ _ false _ c.in_ok-name.ensures h.0 refl))
 
 pub returns-then-same_name : goal.returns-then-same_name
 returns-then-same_name c =
-    let n = c.args.self.now.names in
     let h = c.in_ok-k.ensures in
-    turns_at (operand ∷ []) (KnowsCompares (vars_of n) (tabs_of n) c.args.left.now) _ _ SameName _ c.at.ensures
-    (against_decides (vars_of n) (tabs_of n) c.args.left.now c.in_ok-name.name.now c.in_ok-name.place _ _ true true c.in_ok-name.ensures h.0 (sym c.if-same_name.ensures))
+    turns_at (operand ∷ []) (KnowsCompares _ _ c.args.left.now) _ _ SameName _ c.at.ensures
+    (against_decides _ _ c.args.left.now c.in_ok-name.name.now c.in_ok-name.place _ _ true true c.in_ok-name.ensures h.0 (sym c.if-same_name.ensures))
 
 pub returns-then-at_name : goal.returns-then-at_name
 returns-then-at_name c =
-    let n = c.args.self.now.names in
     let h = c.in_ok-k.ensures in (
       against c.in_ok-name.name.now,
       ap Against h.1,
       tt,
-      (over_against (vars_of n) (tabs_of n) c.args.left.now _ _ _ _ c.in_ok-name.ensures h.0 (sym c.if-same_name.ensures), refl),
+      (over_against _ _ c.args.left.now _ _ _ _ c.in_ok-name.ensures h.0 (sym c.if-same_name.ensures), refl),
     )
 
 pub returns-in_err-c : goal.returns-in_err-c
 returns-in_err-c c =
-    let n = c.args.self.now.names in
     handed_on _ _ c.from_residual-in_err-c.result _ c.from_residual-in_err-c.ensures.1
-    (turns (refuses_limit (vars_of n) (tabs_of n) c.args.left.now (left c.args.self.now.sentence) _ (sym c.if-at_name.ensures)) c.in_err-c.ensures.read)
+    (turns (refuses_limit _ _ c.args.left.now (left c.args.self.now.sentence) _ (sym c.if-at_name.ensures)) c.in_err-c.ensures.read)
 
 pub returns : goal.returns
 returns c =
-    let n = c.args.self.now.names in
     let h = c.in_ok-c.ensures in
     let z = c.in_ok-c.c in
     let e : z ≡ to_z w64 (of_z w64 z) = sym (to_z-of_z w64 z (search rules)) in (
@@ -58,7 +52,7 @@ returns c =
       refl,
       subst Small e h.small,
       (
-        over_limit (vars_of n) (tabs_of n) c.args.left.now _ _ (left c.args.self.now.sentence) (left c.constant.new.self) (sym c.if-at_name.ensures)
+        over_limit _ _ c.args.left.now _ _ (left c.args.self.now.sentence) (left c.constant.new.self) (sym c.if-at_name.ensures)
             (subst (λ (x : ℤ). Constant x c.in_ok-c.field-0-1 (left c.args.self.now.sentence) (left c.constant.new.self)) e h.read),
         refl,
       ),

@@ -3,7 +3,7 @@ use Rattle.language.specs.Expected.Expect.{just}
 use Rattle.language.specs.Expected.Terminal.{any_name}
 use Rattle.language.proofs.Turning.{turns}
 use Rattle.language.proofs.Heads.{refuses_variable_name, declares_variable}
-use Rattle.sentences.specs.Models.{vars_of, tabs_of, variable_of}
+use Rattle.sentences.specs.Models.{tabs_of, variable_of}
 use Rattle.sentences.specs.Scripts.{ending}
 use Rattle.sentences.specs.declared.names.Names.{Names}
 use Rattle.sentences.specs.declared.Variable.{Variable}
@@ -21,7 +21,7 @@ pub returns-in_err-name : goal.returns-in_err-name
 returns-in_err-name c =
     let n = c.args.self.now.names in
     handed_on _ _ c.from_residual-in_err-name.result _ c.from_residual-in_err-name.ensures.1
-    (turns (refuses_variable_name (vars_of n) (tabs_of n) c.in_ok-mark.ensures _ (counted variable_of (vec_items n.variables) c.len-count.result (c.len-count.ensures ∙ n.variables.ok.0)) _)
+    (turns (refuses_variable_name _ _ c.in_ok-mark.ensures _ (counted variable_of (vec_items n.variables) c.len-count.result (c.len-count.ensures ∙ n.variables.ok.0)) _)
     c.in_err-name.ensures)
 
 pub returns-in_err-range : goal.returns-in_err-range
@@ -30,7 +30,7 @@ returns-in_err-range c =
     let w = c.in_ok-name.ensures in
     let i = counted variable_of (vec_items n.variables) c.len-count.result (c.len-count.ensures ∙ n.variables.ok.0) ∙ w.3 in
     handed_on _ _ c.from_residual-in_err-range.result _ c.from_residual-in_err-range.ensures.1
-    (turns (refuses_variable_ending (vars_of n) (tabs_of n) c.in_ok-mark.ensures w.1 w.2 i _) c.in_err-range.ensures)
+    (turns (refuses_variable_ending _ _ c.in_ok-mark.ensures w.1 w.2 i _) c.in_err-range.ensures)
 
 pub returns : goal.returns
 returns c =
@@ -39,6 +39,6 @@ returns c =
     let x = c.in_ok-range.ensures in
     let i = counted variable_of (vec_items n.variables) c.len-count.result (c.len-count.ensures ∙ n.variables.ok.0) ∙ w.3 in
     let v : Variable = record { name = c.in_ok-name-2.name; range = c.in_ok-range.range } in
-    declares_variable (vars_of n) (tabs_of n) c.in_ok-mark.ensures w.1 w.2 i x.opens x.range _ _ x.closes _
+    declares_variable _ _ c.in_ok-mark.ensures w.1 w.2 i x.opens x.range _ _ x.closes _
     (one_more variable_of (vec_items n.variables) (vec_items c.push.new.self) v _
     (c.in_ok-push.ensures.items ∙ ap (λ (m : Names). vec_items m.variables ++ (v ∷ [])) w.4) (λ i. record { name = c.in_ok-name-2.ensures.items i; range = c.in_ok-range.range })) _ (ap tabs_of w.4)

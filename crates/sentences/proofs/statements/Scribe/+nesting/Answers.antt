@@ -27,8 +27,8 @@ read_block-returns-in_err-place t c =
 pub read_block-returns-then-levels-eq0 : goal.read_block-returns-then-levels-eq0
 read_block-returns-then-levels-eq0 t c =
     let n = c.args.self.now.script.names in
-    turns_at (block ∷ []) (Inner (vars_of n) (tabs_of n) c.args.levels) _ _ TooDeep _ c.at.ensures
-    (λ k past y. refuses_level (vars_of n) (tabs_of n) c.in_ok-place.ensures k past (subst (λ (l : ℕ). Inner (vars_of n) (tabs_of n) l past) c.if-levels-eq0.true y))
+    turns_at (block ∷ []) (Inner _ _ c.args.levels) _ _ TooDeep _ c.at.ensures
+    (λ k past y. refuses_level _ _ c.in_ok-place.ensures k past (subst (λ (l : ℕ). Inner (vars_of n) (tabs_of n) l past) c.if-levels-eq0.true y))
 
 pub read_block-returns-in_err-read_statements : goal.read_block-returns-in_err-read_statements
 read_block-returns-in_err-read_statements t c =
@@ -36,7 +36,7 @@ read_block-returns-in_err-read_statements t c =
     let e : suc (c.args.levels - 1) ≡ c.args.levels = omega arith in
     handed_on _ _ c.from_residual-in_err-read_statements.result _ c.from_residual-in_err-read_statements.ensures.1
     (subst (λ (l : ℕ). TurnsBack (block ∷ []) (Inner (vars_of n) (tabs_of n) l) (left c.args.self.now.script.sentence) c.in_err-read_statements.field-0.0) e
-    (turns (refuses_inside (vars_of n) (tabs_of n) c.in_ok-place.ensures _) c.in_err-read_statements.ensures))
+    (turns (refuses_inside _ _ c.in_ok-place.ensures _) c.in_err-read_statements.ensures))
 
 pub read_block-returns-in_err-mark : goal.read_block-returns-in_err-mark
 read_block-returns-in_err-mark t c =
@@ -45,7 +45,7 @@ read_block-returns-in_err-mark t c =
     let b = c.in_ok-read_statements.ensures in
     handed_on _ _ c.from_residual-in_err-mark.result _ c.from_residual-in_err-mark.ensures.1
     (subst (λ (l : ℕ). TurnsBack (block ∷ []) (Inner (vars_of n) (tabs_of n) l) (left c.args.self.now.script.sentence) c.in_err-mark.field-0.0) e
-    (turns (refuses_brace (vars_of n) (tabs_of n) c.in_ok-place.ensures b.0.0 b.1 _) c.in_err-mark.ensures))
+    (turns (refuses_brace _ _ c.in_ok-place.ensures b.0.0 b.1 _) c.in_err-mark.ensures))
 
 pub read_block-returns : goal.read_block-returns
 read_block-returns t c =
@@ -53,7 +53,7 @@ read_block-returns t c =
     let e : suc (c.args.levels - 1) ≡ c.args.levels = omega arith in
     let b = c.in_ok-read_statements.ensures in (
       subst (λ (l : ℕ). Blocked (vars_of n) (tabs_of n) l (left c.args.self.now.script.sentence) (left c.mark-2.new.self) (drawn_so c.args.self.now.drawing) (drawn_so c.read_statements.new.self.drawing)) e
-          (blocked (vars_of n) (tabs_of n) c.in_ok-place.ensures b.0.0 b.1 _ _ c.in_ok-mark.ensures),
+          (blocked _ _ c.in_ok-place.ensures b.0.0 b.1 _ _ c.in_ok-mark.ensures),
       b.0.1,
     )
 
@@ -64,24 +64,21 @@ read_choice-returns-in_err-place t c =
 
 pub read_choice-returns-in_err-c : goal.read_choice-returns-in_err-c
 read_choice-returns-in_err-c t c =
-    let n = c.args.self.now.script.names in
     handed_on _ _ c.from_residual-in_err-c.result _ c.from_residual-in_err-c.ensures.1
-    (turns (refuses_if (vars_of n) (tabs_of n) c.in_ok-place.ensures _) c.in_err-c.ensures)
+    (turns (refuses_if _ _ c.in_ok-place.ensures _) c.in_err-c.ensures)
 
 pub read_choice-returns-in_err-read_block : goal.read_choice-returns-in_err-read_block
 read_choice-returns-in_err-read_block t c =
-    let n = c.args.self.now.script.names in
     let a = c.in_ok-c.ensures in
     handed_on _ _ c.from_residual-in_err-read_block.result _ c.from_residual-in_err-read_block.ensures.1
-    (turns (refuses_first (vars_of n) (tabs_of n) c.in_ok-place.ensures a.3.0 _) (halts_at a.3.1 (InnerAt c.args.levels) c.in_err-read_block.ensures))
+    (turns (refuses_first _ _ c.in_ok-place.ensures a.3.0 _) (halts_at a.3.1 (InnerAt c.args.levels) c.in_err-read_block.ensures))
 
 pub read_choice-returns-in_err-read_else : goal.read_choice-returns-in_err-read_else
 read_choice-returns-in_err-read_else t c =
-    let n = c.args.self.now.script.names in
     let a = c.in_ok-c.ensures in
     let b = at_names a.3.1 Blocked c.in_ok-read_block.ensures in
     handed_on _ _ c.from_residual-in_err-read_else.result _ c.from_residual-in_err-read_else.ensures.1
-    (turns (refuses_second (vars_of n) (tabs_of n) c.in_ok-place.ensures a.3.0 b.0 _) (halts_at b.1 (StartsAt c.args.levels) c.in_err-read_else.ensures))
+    (turns (refuses_second _ _ c.in_ok-place.ensures a.3.0 b.0 _) (halts_at b.1 (StartsAt c.args.levels) c.in_err-read_else.ensures))
 
 pub read_choice-returns : goal.read_choice-returns
 read_choice-returns t c =
@@ -105,18 +102,17 @@ read_choice-returns t c =
 
 pub read_else-returns-then-accept : goal.read_else-returns-then-accept
 read_else-returns-then-accept t c =
-    let n = c.args.self.now.script.names in
     let m = c.if-accept.ensures.passed in
     MatchResult-weaker c.read_block.result c.read_block.ensures
-    (λ _ b. (elsed_some (vars_of n) (tabs_of n) _ m.0 _ _ _ _ _ m.1 b.0, b.1))
-    (λ e b. turns (refuses_else (vars_of n) (tabs_of n) _ m.0 _ _ _ m.1) b)
+    (λ _ b. (elsed_some _ _ _ m.0 _ _ _ _ _ m.1 b.0, b.1))
+    (λ e b. turns (refuses_else _ _ _ m.0 _ _ _ m.1) b)
 
 pub read_else-returns : goal.read_else-returns
 read_else-returns t c =
     let n = c.args.self.now.script.names in
     let d = drawn_so c.args.self.now.drawing in
     let t₀ = left c.args.self.now.script.sentence in
-    (subst (λ (x : Text). Elsed (vars_of n) (tabs_of n) c.args.levels t₀ x d d) (sym c.if-accept.ensures.stays) (elsed_none (vars_of n) (tabs_of n) _ _ _ (sym c.if-accept.ensures.is)), refl)
+    (subst (λ (x : Text). Elsed (vars_of n) (tabs_of n) c.args.levels t₀ x d d) (sym c.if-accept.ensures.stays) (elsed_none _ _ _ _ _ (sym c.if-accept.ensures.is)), refl)
 
 pub read_repetition-returns-in_err-place : goal.read_repetition-returns-in_err-place
 read_repetition-returns-in_err-place t c =
@@ -125,16 +121,14 @@ read_repetition-returns-in_err-place t c =
 
 pub read_repetition-returns-in_err-c : goal.read_repetition-returns-in_err-c
 read_repetition-returns-in_err-c t c =
-    let n = c.args.self.now.script.names in
     handed_on _ _ c.from_residual-in_err-c.result _ c.from_residual-in_err-c.ensures.1
-    (turns (refuses_while (vars_of n) (tabs_of n) c.in_ok-place.ensures _) c.in_err-c.ensures)
+    (turns (refuses_while _ _ c.in_ok-place.ensures _) c.in_err-c.ensures)
 
 pub read_repetition-returns-in_err-read_block : goal.read_repetition-returns-in_err-read_block
 read_repetition-returns-in_err-read_block t c =
-    let n = c.args.self.now.script.names in
     let a = c.in_ok-c.ensures in
     handed_on _ _ c.from_residual-in_err-read_block.result _ c.from_residual-in_err-read_block.ensures.1
-    (turns (refuses_loop (vars_of n) (tabs_of n) c.in_ok-place.ensures a.3.0 _) (halts_at a.3.1 (InnerAt c.args.levels) c.in_err-read_block.ensures))
+    (turns (refuses_loop _ _ c.in_ok-place.ensures a.3.0 _) (halts_at a.3.1 (InnerAt c.args.levels) c.in_err-read_block.ensures))
 
 pub read_repetition-returns : goal.read_repetition-returns
 read_repetition-returns t c =
@@ -175,17 +169,16 @@ read_statement-returns-else-at-2 t c =
     (h c.args.levels))
 
 pub read_statements-loop-self-init : goal.read_statements-loop-self-init
-read_statements-loop-self-init t c = let n = c.args.self.now.script.names in (stated_none (vars_of n) (tabs_of n) _ _ _, refl)
+read_statements-loop-self-init t c = let n = c.args.self.now.script.names in (stated_none _ _ _ _ _, refl)
 
 pub read_statements-loop-self-smaller : goal.read_statements-loop-self-smaller
-read_statements-loop-self-smaller t c = let n = c.loop-self.self.script.names in shorter (vars_of n) (tabs_of n) c.in_ok-read_statement.ensures.0
+read_statements-loop-self-smaller t c = let n = c.loop-self.self.script.names in shorter _ _ c.in_ok-read_statement.ensures.0
 
 pub read_statements-loop-self-preserved : goal.read_statements-loop-self-preserved
 read_statements-loop-self-preserved t c =
-    let n = c.args.self.now.script.names in
     let i = c.loop-self.invariant in
     let s = at_names i.1 Statement c.in_ok-read_statement.ensures in
-    (stated_then (vars_of n) (tabs_of n) i.0 s.0.stated, s.1)
+    (stated_then _ _ i.0 s.0.stated, s.1)
 
 pub read_statements-returns-in_err-read_statement : goal.read_statements-returns-in_err-read_statement
 read_statements-returns-in_err-read_statement t c =

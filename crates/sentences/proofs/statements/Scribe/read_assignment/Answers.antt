@@ -21,43 +21,38 @@ returns-in_err-name c =
 
 pub returns-in_err-k : goal.returns-in_err-k
 returns-in_err-k c =
-    let n = c.args.self.now.script.names in
     let h = c.in_err-k.ensures in
     handed_on _ _ c.from_residual-in_err-k.result _ c.from_residual-in_err-k.ensures.1
-    (λ l. turns_at assigning (Starts (vars_of n) (tabs_of n) l) _ _ Undeclared _ h.1 (target_decides (vars_of n) (tabs_of n) c.in_ok-name.ensures false h.0))
+    (λ l. turns_at assigning (Starts _ _ l) _ _ Undeclared _ h.1 (target_decides _ _ c.in_ok-name.ensures false h.0))
 
 pub returns-in_err-mark : goal.returns-in_err-mark
 returns-in_err-mark c =
-    let n = c.args.self.now.script.names in
     let h = c.in_ok-k.ensures in
     handed_on _ _ c.from_residual-in_err-mark.result _ c.from_residual-in_err-mark.ensures.1
-    (λ l. turns (refuses_becomes (vars_of n) (tabs_of n) c.in_ok-name.ensures h.0 _) c.in_err-mark.ensures)
+    (λ l. turns (refuses_becomes _ _ c.in_ok-name.ensures h.0 _) c.in_err-mark.ensures)
 
 pub returns-in_err-right : goal.returns-in_err-right
 returns-in_err-right c =
-    let n = c.args.self.now.script.names in
     let h = c.in_ok-k.ensures in
     handed_on _ _ c.from_residual-in_err-right.result _ c.from_residual-in_err-right.ensures.1
-    (λ l. turns (refuses_side (vars_of n) (tabs_of n) c.in_ok-name.ensures h.0 c.in_ok-mark.ensures _) c.in_err-right.ensures)
+    (λ l. turns (refuses_side _ _ c.in_ok-name.ensures h.0 c.in_ok-mark.ensures _) c.in_err-right.ensures)
 
 pub returns-in_err-mark-2 : goal.returns-in_err-mark-2
 returns-in_err-mark-2 c =
-    let n = c.args.self.now.script.names in
     let h = c.in_ok-k.ensures in
     let a = c.in_ok-right.ensures in
     handed_on _ _ c.from_residual-in_err-mark-2.result _ c.from_residual-in_err-mark-2.ensures.1
-    (λ l. turns (refuses_semicolon (vars_of n) (tabs_of n) c.in_ok-name.ensures h.0 c.in_ok-mark.ensures a.2.0 _) c.in_err-mark-2.ensures)
+    (λ l. turns (refuses_semicolon _ _ c.in_ok-name.ensures h.0 c.in_ok-mark.ensures a.2.0 _) c.in_err-mark-2.ensures)
 
 pub returns : goal.returns
 returns c =
-    let n = c.args.self.now.script.names in
     let h = c.in_ok-k.ensures in
     let a = c.in_ok-right.ensures in
     MatchResult-weaker c.assign.result c.assign.ensures
     (λ _ e l. (
-      stated_assign (vars_of n) (tabs_of n) c.in_ok-name.ensures h.0 c.in_ok-mark.ensures a.2.0 _ _ _ _ c.in_ok-mark-2.ensures
+      stated_assign _ _ c.in_ok-name.ensures h.0 c.in_ok-mark.ensures a.2.0 _ _ _ _ c.in_ok-mark-2.ensures
           (e ∙ ap (λ (m : Names). assigned (vars_of m) (tabs_of m) c.in_ok-name.place c.in_ok-k.k c.in_ok-right.right (drawn_so c.args.self.now.drawing)) a.2.1 ∙
-          assigned_as (vars_of n) (tabs_of n) _ _ _ c.in_ok-right.right a.0 _ h.1 a.1),
+          assigned_as _ _ _ _ _ c.in_ok-right.right a.0 _ h.1 a.1),
       a.2.1,
     ))
     (λ _ e l. by_want e)
