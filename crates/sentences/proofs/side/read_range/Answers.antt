@@ -1,4 +1,4 @@
-use Rattle.std.proofs.Common.{◌≡◌, true, false, [], ◌∷◌, ◌∙◌, subst, arith, w64, to_z, of_z}
+use Rattle.std.proofs.Common.{ℤ, Bool, ◌≡◌, [], ◌∷◌, ◌∙◌, subst, arith, w64, to_z, of_z}
 use lib.Signed.{lt_z}
 use borrow.Author.Differences.{ints}
 use Rattle.refusal.specs.declared.Reason.TheVariants.{RangeFalls}
@@ -14,6 +14,10 @@ use Rattle.words.specs.declared.Mark.TheVariants.{Dots}
 use Rattle.sentences.specs.Models.{left}
 use Rattle.sentences.proofs.Exits.{handed_on}
 use Rattle.sentences.proofs.side.read_range.Goals as goal
+
+-- the code compares the numbers as they lie in their words
+compared : {a b a₂ b₂ : ℤ} {t : Bool} → a ≡ a₂ → b ≡ b₂ → lt_z a₂ b₂ ≡ t → lt_z a b ≡ t
+compared e f h = (λ i. lt_z (e i) (f i)) ∙ h
 
 pub returns-in_err-low : goal.returns-in_err-low
 returns-in_err-low c =
@@ -32,16 +36,18 @@ returns-in_err-high c =
 
 pub returns-then-high-low : goal.returns-then-high-low
 returns-then-high-low c =
-    let h : lt_z c.in_ok-high.high c.in_ok-low.low ≡ true = grind (arith, ints) in
+    let low = c.in_ok-low.low in
+    let high = c.in_ok-high.high in
+    let a : low ≡ to_z w64 (of_z w64 low) = omega (arith, ints) in
+    let b : high ≡ to_z w64 (of_z w64 high) = omega (arith, ints) in
     turns_at (span ∷ []) Quiet _ _ RangeFalls _ c.at.ensures
-    (span_falls c.in_ok-low.ensures.read c.in_ok-mark.ensures c.in_ok-high.ensures.read h)
+    (span_falls c.in_ok-low.ensures.read c.in_ok-mark.ensures c.in_ok-high.ensures.read (compared b a c.if-high-low.true))
 
 pub returns : goal.returns
 returns c =
     let low = c.in_ok-low.low in
     let high = c.in_ok-high.high in
-    let h : lt_z high low ≡ false = grind (arith, ints) in
     let a : low ≡ to_z w64 (of_z w64 low) = omega (arith, ints) in
     let b : high ≡ to_z w64 (of_z w64 high) = omega (arith, ints) in
     subst (λ (g : Range). Over (span ∷ []) Quiet (is_span g) (left c.args.s.now) (left c.constant-2.new.self)) (λ i. record { low = a i; high = b i })
-    (span_over c.in_ok-low.ensures.read c.in_ok-mark.ensures c.in_ok-high.ensures.read h)
+    (span_over c.in_ok-low.ensures.read c.in_ok-mark.ensures c.in_ok-high.ensures.read (compared b a c.if-high-low.false))
