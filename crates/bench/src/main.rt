@@ -16,6 +16,7 @@ use std::alloc::Global;
 use std::{env, fmt};
 
 // What a run came to: the unknowns, the counted rounds, whether the analysis is settled, and the largest value.
+// A flag beside the others and no `Option`: they are told in both cases.
 #[derive(Clone, Copy)]
 struct Outcome {
     unknowns: usize,
@@ -76,7 +77,7 @@ fn solve(heap: Global, shape: Shape, size: usize) -> Result<Outcome, Refusal>
     })
 }
 
-// The family of a name.
+// The family of a name. No `TryFrom` of `Shape`: the names are words of this program.
 fn shape_named(name: &str) -> Option<Shape> {
     match name {
         "chain" => Some(Shape::Chain),

@@ -24,13 +24,14 @@ use script::Script;
 use statements::Scribe;
 
 // A variable, with the range of its start values.
+// Its name is bytes and no `String`: a script is bytes, and a name is part of them.
 #[derive(Drop)]
 pub struct Variable {
     pub name: Vec<u8>,
     pub range: Range,
 }
 
-// A table, with the range of its entries.
+// A table, with the range of its entries. Not one type with a variable: it has a size.
 #[derive(Drop)]
 pub struct Table {
     pub name: Vec<u8>,

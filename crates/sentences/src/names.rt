@@ -39,7 +39,7 @@ impl Named for Table {
     }
 }
 
-// Whether two names are the same.
+// Whether two names are the same: `==`, told in the words of the definition.
 pub(crate) fn same_name(a: &[u8], b: &[u8]) -> bool
     ensures { result ≡ same a.now b.now }
 {
@@ -53,7 +53,7 @@ fn is_called<T: Named>(x: &T, name: &[u8]) -> bool
     same_name(name, x.name())
 }
 
-// The number of the first that has this name.
+// The number of the first that has this name. From the front and by no map: there are at most eight, numbered as declared.
 fn position<T: Named>(list: &[T], name: &[u8]) -> Option<usize>
     ensures { LooksUp name.now (map T.Named.called list.now) result }
 {

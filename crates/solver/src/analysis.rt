@@ -16,11 +16,11 @@ use books::{Book, Entry};
 use kinds::Kind;
 use refusal::{Reason, Refusal};
 
-// The largest budget that a run may have.
+// The largest budget that a run may have. `as`: `From` is no constant function.
 pub const MOST_ROUNDS: usize = u16::MAX as usize;
 
 // The list that an analysis was lent, one entry for each unknown of its book, and the counted rounds since set-up or restart (65,535 if more).
-// Every call that takes a book is given the book of the set-up. With another one it stays within the list and ends, and says nothing.
+// Lent, so that the solver needs no heap. Every call that takes a book is given the book of the set-up. With another one it stays within the list and ends, and says nothing.
 #[derive(Drop)]
 pub struct Analysis<'a, K> {
     list: &'a mut [Entry<K>],
