@@ -1,5 +1,6 @@
 -- the order of values, the smaller and the greater, sums of weights and shifts
-use Rattle.std.proofs.Common.{◌≡◌, ℕ, zero, suc, ◌≤◌, Bool, true, false, cond, ◌⊎◌, sym, refl, ap, ◌∙◌, subst, inl, inr, ⊎_elim, true≢false, le_of_suc-le-suc, not-suc-le-zero}
+use Rattle.std.proofs.Common.{◌≡◌, ℕ, zero, suc, ◌≤◌, Bool, true, false, ◌⊎◌, sym, refl, ap, ◌∙◌, subst, inl, inr, ⊎_elim, true≢false, le_of_suc-le-suc, not-suc-le-zero}
+use Rattle.std.proofs.lemmas.Bool.{cases_Bool, cond_both}
 use mathlib.Core.Bool.{Bool-set}
 use Rattle.kinds.specs.Limits.{most_items}
 use Rattle.kinds.specs.Kinds.{Ops, Laws, Sum, Less}
@@ -9,10 +10,6 @@ use Rattle.books.specs.Books.{smaller, greater}
 abbrev pub Le : {V W : Type 0} → Ops V W → V → V → Type 0
 Le o x y = o.at_most x y ≡ true
 
-pub bool_cases : (b : Bool) → (b ≡ true) ⊎ (b ≡ false)
-bool_cases true = inl refl
-bool_cases false = inr refl
-
 pub never_both : {b : Bool} → b ≡ true → b ≡ false → ⊥
 never_both p q = true≢false (sym p ∙ q)
 
@@ -21,7 +18,7 @@ le_prop o x y = Bool-set (o.at_most x y) true
 
 module _ {V W : Type 0} (o : Ops V W) (l : Laws o) where
   pub le_or_lt : (x y : V) → (Le o x y) ⊎ (Less o y x)
-  le_or_lt x y = bool_cases (o.at_most x y)
+  le_or_lt x y = cases_Bool (o.at_most x y)
 
   pub lt_le : {x y : V} → Less o x y → Le o x y
   lt_le {x} {y} h = ⊎_elim (λ p. p) (λ q. absurd (never_both q h)) (l.total x y)
@@ -33,10 +30,10 @@ module _ {V W : Type 0} (o : Ops V W) (l : Laws o) where
   le_trans {x} {y} {z} p q = l.transitive x y z p q
 
   pub lt_of_lt_le : {x y z : V} → Less o x y → Le o y z → Less o x z
-  lt_of_lt_le {x} {y} {z} p q = ⊎_elim (λ (r : Le o z x). absurd (never_both (l.transitive y z x q r) p)) (λ r. r) (bool_cases (o.at_most z x))
+  lt_of_lt_le {x} {y} {z} p q = ⊎_elim (λ (r : Le o z x). absurd (never_both (l.transitive y z x q r) p)) (λ r. r) (cases_Bool (o.at_most z x))
 
   pub lt_of_le_lt : {x y z : V} → Le o x y → Less o y z → Less o x z
-  lt_of_le_lt {x} {y} {z} p q = ⊎_elim (λ (r : Le o z x). absurd (never_both (l.transitive z x y r p) q)) (λ r. r) (bool_cases (o.at_most z x))
+  lt_of_le_lt {x} {y} {z} p q = ⊎_elim (λ (r : Le o z x). absurd (never_both (l.transitive z x y r p) q)) (λ r. r) (cases_Bool (o.at_most z x))
 
   pub lt_irrefl : {x : V} → Less o x x → ⊥
   lt_irrefl {x} p = never_both (l.reflexive x) p
@@ -45,7 +42,7 @@ module _ {V W : Type 0} (o : Ops V W) (l : Laws o) where
   not_least {x} {y} p e = never_both (l.bottom x) (subst (λ (z : V). Less o x z) e p)
 
   pub above_least : {x : V} → (x ≡ o.least → ⊥) → Less o o.least x
-  above_least {x} n = ⊎_elim (λ (r : Le o x o.least). absurd (n (l.antisymmetric x o.least r (l.bottom x)))) (λ r. r) (bool_cases (o.at_most x o.least))
+  above_least {x} n = ⊎_elim (λ (r : Le o x o.least). absurd (n (l.antisymmetric x o.least r (l.bottom x)))) (λ r. r) (cases_Bool (o.at_most x o.least))
 
   pub stays_above : {x y : V} → (x ≡ o.least → ⊥) → Le o x y → y ≡ o.least → ⊥
   stays_above n p = not_least (lt_of_lt_le (above_least n) p)
@@ -57,48 +54,24 @@ module _ {V W : Type 0} (o : Ops V W) (l : Laws o) where
   greatest_or_not x = ⊎_elim (λ (r : Le o o.greatest x). inl (l.antisymmetric x o.greatest (l.top x) r))
       (λ r. inr (λ e. lt_irrefl (subst (λ (z : V). Less o z o.greatest) e r))) (le_or_lt o.greatest x)
 
-  -- the smaller of two values
+  -- the smaller and the greater of two values
   pub smaller_left : (x y : V) → Le o (smaller o x y) x
-  smaller_left x y = go (o.at_most x y) refl
-    where
-      go : (b : Bool) → o.at_most x y ≡ b → Le o (cond b x y) x
-      go true e = l.reflexive x
-      go false e = lt_le e
+  smaller_left x y = cond_both (o.at_most x y) x y (λ z. Le o z x) (λ e. l.reflexive x) lt_le
 
   pub smaller_right : (x y : V) → Le o (smaller o x y) y
-  smaller_right x y = go (o.at_most x y) refl
-    where
-      go : (b : Bool) → o.at_most x y ≡ b → Le o (cond b x y) y
-      go true e = e
-      go false e = l.reflexive y
+  smaller_right x y = cond_both (o.at_most x y) x y (λ z. Le o z y) (λ e. e) (λ e. l.reflexive y)
 
   pub smaller_either : (x y : V) → (smaller o x y ≡ x) ⊎ (smaller o x y ≡ y)
-  smaller_either x y = go (o.at_most x y)
-    where
-      go : (b : Bool) → (cond b x y ≡ x) ⊎ (cond b x y ≡ y)
-      go true = inl refl
-      go false = inr refl
+  smaller_either x y = cond_both (o.at_most x y) x y (λ z. (z ≡ x) ⊎ (z ≡ y)) (λ e. inl refl) (λ e. inr refl)
 
   pub greater_left : (x y : V) → Le o x (greater o x y)
-  greater_left x y = go (o.at_most y x) refl
-    where
-      go : (b : Bool) → o.at_most y x ≡ b → Le o x (cond b x y)
-      go true e = l.reflexive x
-      go false e = lt_le e
+  greater_left x y = cond_both (o.at_most y x) x y (Le o x) (λ e. l.reflexive x) lt_le
 
   pub greater_right : (x y : V) → Le o y (greater o x y)
-  greater_right x y = go (o.at_most y x) refl
-    where
-      go : (b : Bool) → o.at_most y x ≡ b → Le o y (cond b x y)
-      go true e = e
-      go false e = l.reflexive y
+  greater_right x y = cond_both (o.at_most y x) x y (Le o y) (λ e. e) (λ e. l.reflexive y)
 
   pub greater_either : (x y : V) → (greater o x y ≡ x) ⊎ (greater o x y ≡ y)
-  greater_either x y = go (o.at_most y x)
-    where
-      go : (b : Bool) → (cond b x y ≡ x) ⊎ (cond b x y ≡ y)
-      go true = inl refl
-      go false = inr refl
+  greater_either x y = cond_both (o.at_most y x) x y (λ z. (z ≡ x) ⊎ (z ≡ y)) (λ e. inl refl) (λ e. inr refl)
 
   -- sums
   pub sum_more : {a : ℕ} {w : W} (b : ℕ) → a ≤ b → Sum o a w → Sum o b w

@@ -12,7 +12,8 @@ use Rattle.books.specs.declared.Terms.TheVariants.{One, Two}
 use Rattle.books.specs.declared.Test.{Test}
 use Rattle.books.specs.declared.Test.TheVariants.{Always, Single, Joint}
 use Rattle.books.specs.declared.Alternative.{Alternative}
-use Rattle.books.proofs.Order.{Le, bool_cases, le_of_eq, le_trans, smaller_left, smaller_right, smaller_either, greater_left, greater_right, sum_more, sum_one, shift_mono}
+use Rattle.std.proofs.lemmas.Bool.{cases_Bool}
+use Rattle.books.proofs.Order.{Le, le_of_eq, le_trans, smaller_left, smaller_right, smaller_either, greater_left, greater_right, sum_more, sum_one, shift_mono}
 
 pub no_option : {A : Type 0} {a : A} → None ≡ Some a → ⊥
 no_option {A} {a} e = subst code e tt
@@ -64,7 +65,7 @@ module _ {V W : Type 0} (o : Ops V W) (l : Laws o) where
   worth_is x a p = ap (λ (b : Bool). cond b (terms o x a.terms) o.least) p
 
   pub worth_above : (x : List V) (a : Alternative V W) → (worth o x a ≡ o.least → ⊥) → holds o x a.test ≡ true
-  worth_above x a n = ⊎_elim (λ p. p) (λ (q : holds o x a.test ≡ false). absurd (n (ap (λ (b : Bool). cond b (terms o x a.terms) o.least) q))) (bool_cases (holds o x a.test))
+  worth_above x a n = ⊎_elim (λ p. p) (λ (q : holds o x a.test ≡ false). absurd (n (ap (λ (b : Bool). cond b (terms o x a.terms) o.least) q))) (cases_Bool (holds o x a.test))
 
   pub best_over : (x : List V) (bs : List (Alternative V W)) (k : ℕ) (a : Alternative V W) → nth bs k ≡ Some a → Le o (worth o x a) (best o x bs)
   best_over x [] k a e = absurd (no_option e)

@@ -9,7 +9,7 @@ use Rattle.books.specs.Books.{at}
 use Rattle.books.specs.Forms.{Well}
 use Rattle.strategy.specs.Solving.{Stage, Settled, Unsettled}
 use Rattle.books.specs.declared.Alternative.{Alternative}
-use Rattle.books.proofs.Order.{bool_cases}
+use Rattle.std.proofs.lemmas.Bool.{cases_Bool}
 use Rattle.strategy.specs.Lives.{State, Call, Answer, Event, event, calls, Keeps, begun, Runs, Restarts, Does, Life}
 use Rattle.strategy.specs.Lives.Call.{one_round, run, restart, value_of, choice_of, rounds_shown, question}
 use Rattle.strategy.specs.Lives.Answer.{made, done, value, choice, number, told, refused}
@@ -33,7 +33,7 @@ module _ {V W Q A : Type 0} (o : Ops V W) (m : List (List (Alternative V W))) (a
 
     -- a run that ends before its budget is settled, so no other run goes on from there
     never_longer : (b : ℕ) (p : Runs o m b ss s a₁ ss₁ s₁) (q : Runs o m b ss s a₂ ss₂ s₂) → p.k < q.k → ⊥
-    never_longer b p q h = go (bool_cases p.settled)
+    never_longer b p q h = go (cases_Bool p.settled)
       where
         go : (p.settled ≡ true) ⊎ (p.settled ≡ false) → ⊥
         go (inr e) = let f : p.k ≡ b = p.whole e in let g : q.k ≤ b = q.within in omega arith

@@ -9,7 +9,8 @@ use Rattle.strategy.specs.Strategies.{Unchosen, Leads, IsValue, Walk, Improves, 
 use Rattle.strategy.specs.Strategies.Walk.{step}
 use Rattle.books.specs.declared.Term.TheVariants.{Shifted}
 use Rattle.books.specs.declared.Alternative.{Alternative}
-use Rattle.books.proofs.Order.{Le, bool_cases, never_both, le_or_lt, le_of_eq, le_trans, lt_of_lt_le, not_least, greater_either}
+use Rattle.std.proofs.lemmas.Bool.{cases_Bool}
+use Rattle.books.proofs.Order.{Le, never_both, le_or_lt, le_of_eq, le_trans, lt_of_lt_le, not_least, greater_either}
 use Rattle.books.proofs.Worth.{no_option, option_cases, Under, worth_is, best_over}
 use native.Mathlib.Decide.{dec_lt}
 use Rattle.std.proofs.lemmas.List.FromFn.{length-map-range_with_len, get_or-map-range_with_len}
@@ -123,7 +124,7 @@ module _ {V W : Type 0} (o : Ops V W) (l : Laws o) (m : List (List (Alternative 
 
   pub reaches : (x : List V) (r : V) (bs : List (Alternative V W)) → (r ≡ o.least → ⊥) → Le o r (best o x bs) → Reached x r bs
   reaches x r [] n h = absurd (n (l.antisymmetric r o.least h (l.bottom r)))
-  reaches x r (a ∷ bs) n h = go (reaches x r bs n) (bool_cases (o.at_most r (worth o x a))) (greater_either o l (worth o x a) (best o x bs))
+  reaches x r (a ∷ bs) n h = go (reaches x r bs n) (cases_Bool (o.at_most r (worth o x a))) (greater_either o l (worth o x a) (best o x bs))
     where
       go : (Le o r (best o x bs) → Reached x r bs) → (Le o r (worth o x a)) ⊎ (Less o (worth o x a) r) → (best o x (a ∷ bs) ≡ worth o x a) ⊎ (best o x (a ∷ bs) ≡ best o x bs) → Reached x r (a ∷ bs)
       go ih (inl e) q = record { k = zero; a = a; is = ap (λ (b : Bool). cond b (Some zero) (next (reach o x r bs))) e; named = refl; over = e }
