@@ -48,6 +48,7 @@ fn same<K: Kind>(value: K, other: K) -> bool
 }
 
 // Gives every unknown the smaller of its chosen terms, in order and in place. Says whether a value changed.
+// No one function with `improve` over a closure: what the list keeps after each step is another fact, and a clause would owe it for every closure.
 fn sweep<K: Kind, B: Book<K>>(book: &B, list: &mut [Entry<K>]) -> bool
     ensures sweeps { ShortSweep K.Kind.ops (B.Book.meaning book.now) list.old → SweepsAll K.Kind.ops (B.Book.meaning book.now) list.old list.new }
     ensures strategy { choices list.new ≡ choices list.old }
