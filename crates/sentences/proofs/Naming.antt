@@ -10,11 +10,11 @@ use Rattle.sentences.specs.declared.Variable.{Variable}
 use Rattle.sentences.specs.declared.Table.{Table}
 
 -- the names of variables and of tables
-pub var_names_map : (vs : List Variable) → var_names (map variable_of vs) ≡ map (λ (v : Variable). vec_items v.name) vs
+var_names_map : (vs : List Variable) → var_names (map variable_of vs) ≡ map (λ (v : Variable). vec_items v.name) vs
 var_names_map [] = refl
 var_names_map (v ∷ vs) = ap (λ (z : List (List ℕ)). vec_items v.name ∷ z) (var_names_map vs)
 
-pub table_names_map : (ts : List Table) → table_names (map table_of ts) ≡ map (λ (t : Table). vec_items t.name) ts
+table_names_map : (ts : List Table) → table_names (map table_of ts) ≡ map (λ (t : Table). vec_items t.name) ts
 table_names_map [] = refl
 table_names_map (t ∷ ts) = ap (λ (z : List (List ℕ)). vec_items t.name ∷ z) (table_names_map ts)
 

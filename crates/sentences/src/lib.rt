@@ -55,8 +55,9 @@ pub const MOST_POINTS: usize = 96;
 // Blocks nest at most this deep.
 const MOST_LEVELS: u8 = 8;
 
-// The names and the drawing of a script, or why and where the text is none.
-#[tactic(auto, using(language::proofs::Stands::grammar_stands, language::proofs::Stands::verdicts_stand, language::proofs::Stands::graphs_stand, language::proofs::Shown::examples,))]
+// The names and the drawing of a script, or why and where the text is none. The attribute names the theorems of the
+// language that its clauses `laws` and `examples` demand.
+#[tactic(auto, using(language::proofs::Stands::grammar_stands, language::proofs::Stands::verdicts_stand, language::proofs::Stands::graphs_stand, language::proofs::Shown::examples))]
 pub fn read_outline(heap: Global, script: &[u8]) -> Result<Outline, Refusal>
     ensures verdict { Outlined script.now result }
     ensures laws { GrammarStands × VerdictsStand × GraphsStand }
