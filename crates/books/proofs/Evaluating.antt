@@ -1,6 +1,6 @@
 -- what the functions of evaluation answer, from what they have been answered
-use Rattle.std.proofs.Common.{◌≡◌, ℕ, Bool, true, false, cond, ltb, List, length, get_or, sym, ap, ◌∙◌, subst, arith, ltb-false, ltb-true}
-use Rattle.std.proofs.lemmas.List.{length-map, get_or-map, get_or_past}
+use Rattle.std.proofs.Common.{◌≡◌, ℕ, Bool, true, false, cond, ltb, List, length, get_or, sym, ap, ◌∙◌, subst, arith, ltb-true}
+use Rattle.std.proofs.lemmas.List.{get_or-map}
 use Rattle.kinds.specs.Limits.{most_items}
 use Rattle.kinds.specs.Kinds.{Ops, Laws, Sum, Made}
 use Rattle.kinds.specs.Kinds.Made.{given}
@@ -23,9 +23,6 @@ module _ {V W : Type 0} (o : Ops V W) (l : Laws o) where
   -- the value of an unknown in the list, and of one that is not there
   pub at_inside : (es : List (Entry V)) (u : ℕ) (e : Entry V) → true ≡ ltb u (length es) → e ≡ get_or es u e → e.value ≡ at o (values es) u
   at_inside es u e h is = ap (λ (d : Entry V). d.value) is ∙ sym (get_or-map (λ (d : Entry V). d.value) es u e o.least (ltb-true u (length es) (sym h)))
-
-  pub at_outside : (es : List (Entry V)) (u : ℕ) → false ≡ ltb u (length es) → o.least ≡ at o (values es) u
-  at_outside es u h = sym (get_or_past (values es) u o.least (let g = ltb-false u (length es) (sym h) in simp length-map (omega arith)))
 
   module _ (x : List V) (h : Short o x) (n : ℕ) where
     made_at : (v : V) (u : ℕ) → v ≡ at o x u → Made o most_items v

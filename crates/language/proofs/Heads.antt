@@ -16,7 +16,7 @@ use Rattle.language.specs.Names.{rule, names_behind, next_is_bracket}
 use Rattle.language.specs.Expected.{Expect, one, step, refusal, refuse}
 use Rattle.language.specs.Expected.Expect.{just, heads, span}
 use Rattle.language.specs.Expected.Terminal.{any_name, any_number}
-use Rattle.language.specs.Readings.{before, passed, first_is, Refuses, Anywhere, Over, Quiet, is_span, New, Starts, Declares, Declared, varying, tabling}
+use Rattle.language.specs.Readings.{before, passed, first_is, Refuses, Over, Quiet, is_span, New, Starts, Declares, Declared, varying, tabling}
 use Rattle.language.specs.Readings.New.{new_variable, new_table}
 use Rattle.language.specs.Readings.Boundary.{at_start, behind_semicolon}
 use Rattle.language.proofs.Passing.{pass_word, broken_word, decided_word}
@@ -133,22 +133,13 @@ module _ (vs : List Variable) (ts : List ATable) where
         named : (k : List Expect) (past : List Word) → Starts vs ts 8 past → refusal (varying ++ k) past t ≡ refusal (one Equals ∷ span ∷ one Semicolon ∷ k) (name n p ∷ mark Var v ∷ past) t₂
         named k past y = ap (refusal (varying ++ k) past) e ∙ new_decides false false n p t₁ t₂ f h (one Equals ∷ span ∷ one Semicolon ∷ k) (mark Var v ∷ past) (new_variable y.known i)
 
-        pub refuses_equals : (r : Refusal) → Refuses (one Equals ∷ []) Anywhere t₂ r → Refuses varying (Starts vs ts 8) t r
-        refuses_equals r j k past y = named k past y ∙ j (span ∷ one Semicolon ∷ k) _ tt
-
         module _ {q : Place} {t₃ : Text} (g : t₂ ≡ reads (mark Equals q) t₃) where
           at_range : (k : List Expect) (past : List Word) → Starts vs ts 8 past → refusal (varying ++ k) past t ≡ refusal (span ∷ one Semicolon ∷ k) (mark Equals q ∷ name n p ∷ mark Var v ∷ past) t₃
           at_range k past y = named k past y ∙ ap (refusal (one Equals ∷ span ∷ one Semicolon ∷ k) (name n p ∷ mark Var v ∷ past)) g
 
-          pub refuses_range : (r : Refusal) → Refuses (span ∷ []) Quiet t₃ r → Refuses varying (Starts vs ts 8) t r
-          refuses_range r j k past y = at_range k past y ∙ j (one Semicolon ∷ k) _ (quiet_equals _ q)
-
           module _ {g₂ : Range} {t₄ : Text} (o : Over (span ∷ []) Quiet (is_span g₂) t₃ t₄) where
             behind_range : (k : List Expect) (past : List Word) → Starts vs ts 8 past → refusal (varying ++ k) past t ≡ refusal (one Semicolon ∷ k) (passed o.words (mark Equals q ∷ name n p ∷ mark Var v ∷ past)) t₄
             behind_range k past y = at_range k past y ∙ o.goes (one Semicolon ∷ k) _ (quiet_equals _ q)
-
-            pub refuses_end : (r : Refusal) → Refuses (one Semicolon ∷ []) Anywhere t₄ r → Refuses varying (Starts vs ts 8) t r
-            refuses_end r j k past y = behind_range k past y ∙ j k _ tt
 
             pub declares_variable : (s : Place) (t₅ : Text) → t₄ ≡ reads (mark Semicolon s) t₅ → (vs₂ : List Variable) → vs₂ ≡ vs ++ (record { name = n; range = g₂ } ∷ []) → (ts₂ : List ATable) → ts₂ ≡ ts →
                 Declares vs vs₂ ts ts₂ t t₅
@@ -197,16 +188,10 @@ module _ (vs : List Variable) (ts : List ATable) where
             ap (refusal (tabling ++ k) past) e ∙
             new_decides false false n p t₁ t₂ f h (one OpenBracket ∷ just any_number ∷ one CloseBracket ∷ one Equals ∷ span ∷ one Semicolon ∷ k) (mark Table v ∷ past) (new_table y.known i)
 
-        pub refuses_open : (r : Refusal) → Refuses (one OpenBracket ∷ []) Anywhere t₂ r → Refuses tabling (Starts vs ts 8) t r
-        refuses_open r j k past y = table_named k past y ∙ j (just any_number ∷ one CloseBracket ∷ one Equals ∷ span ∷ one Semicolon ∷ k) _ tt
-
         module _ {q : Place} {t₃ : Text} (g : t₂ ≡ reads (mark OpenBracket q) t₃) where
           at_size : (k : List Expect) (past : List Word) → Starts vs ts 8 past →
               refusal (tabling ++ k) past t ≡ refusal (just any_number ∷ one CloseBracket ∷ one Equals ∷ span ∷ one Semicolon ∷ k) (mark OpenBracket q ∷ name n p ∷ mark Table v ∷ past) t₃
           at_size k past y = table_named k past y ∙ ap (refusal (one OpenBracket ∷ just any_number ∷ one CloseBracket ∷ one Equals ∷ span ∷ one Semicolon ∷ k) (name n p ∷ mark Table v ∷ past)) g
-
-          pub refuses_size : (r : Refusal) → Refuses (just any_number ∷ []) Anywhere t₃ r → Refuses tabling (Starts vs ts 8) t r
-          refuses_size r j k past y = at_size k past y ∙ j (one CloseBracket ∷ one Equals ∷ span ∷ one Semicolon ∷ k) _ tt
 
           module _ {c : ℕ} {u : Place} {t₄ : Text} (m : t₃ ≡ reads (number c u) t₄) where
             pub size_decides : (wrong : Bool) → (eqb c 0 || ltb 65536 c) ≡ wrong → (k : List Expect) (past : List Word) → Starts vs ts 8 past →
@@ -217,16 +202,10 @@ module _ (vs : List Variable) (ts : List ATable) where
                 (ap (λ (b : Bool). cond b 10 0) w)
 
             module _ (w : (eqb c 0 || ltb 65536 c) ≡ false) where
-              pub refuses_close : (r : Refusal) → Refuses (one CloseBracket ∷ []) Anywhere t₄ r → Refuses tabling (Starts vs ts 8) t r
-              refuses_close r j k past y = size_decides false w k past y ∙ j (one Equals ∷ span ∷ one Semicolon ∷ k) _ tt
-
               module _ {x : Place} {t₅ : Text} (d : t₄ ≡ reads (mark CloseBracket x) t₅) where
                 closed : (k : List Expect) (past : List Word) → Starts vs ts 8 past →
                     refusal (tabling ++ k) past t ≡ refusal (one Equals ∷ span ∷ one Semicolon ∷ k) (mark CloseBracket x ∷ number c u ∷ mark OpenBracket q ∷ name n p ∷ mark Table v ∷ past) t₅
                 closed k past y = size_decides false w k past y ∙ ap (refusal (one CloseBracket ∷ one Equals ∷ span ∷ one Semicolon ∷ k) (number c u ∷ mark OpenBracket q ∷ name n p ∷ mark Table v ∷ past)) d
-
-                pub refuses_table_equals : (r : Refusal) → Refuses (one Equals ∷ []) Anywhere t₅ r → Refuses tabling (Starts vs ts 8) t r
-                refuses_table_equals r j k past y = closed k past y ∙ j (span ∷ one Semicolon ∷ k) _ tt
 
                 module _ {z : Place} {t₆ : Text} (l : t₅ ≡ reads (mark Equals z) t₆) where
                   abbrev so_far : List Word → List Word
@@ -235,15 +214,9 @@ module _ (vs : List Variable) (ts : List ATable) where
                   at_table_range : (k : List Expect) (past : List Word) → Starts vs ts 8 past → refusal (tabling ++ k) past t ≡ refusal (span ∷ one Semicolon ∷ k) (so_far past) t₆
                   at_table_range k past y = closed k past y ∙ ap (refusal (one Equals ∷ span ∷ one Semicolon ∷ k) (mark CloseBracket x ∷ number c u ∷ mark OpenBracket q ∷ name n p ∷ mark Table v ∷ past)) l
 
-                  pub refuses_table_range : (r : Refusal) → Refuses (span ∷ []) Quiet t₆ r → Refuses tabling (Starts vs ts 8) t r
-                  refuses_table_range r j k past y = at_table_range k past y ∙ j (one Semicolon ∷ k) _ (quiet_equals _ z)
-
                   module _ {g₂ : Range} {t₇ : Text} (o : Over (span ∷ []) Quiet (is_span g₂) t₆ t₇) where
                     behind_table_range : (k : List Expect) (past : List Word) → Starts vs ts 8 past → refusal (tabling ++ k) past t ≡ refusal (one Semicolon ∷ k) (passed o.words (so_far past)) t₇
                     behind_table_range k past y = at_table_range k past y ∙ o.goes (one Semicolon ∷ k) _ (quiet_equals _ z)
-
-                    pub refuses_table_end : (r : Refusal) → Refuses (one Semicolon ∷ []) Anywhere t₇ r → Refuses tabling (Starts vs ts 8) t r
-                    refuses_table_end r j k past y = behind_table_range k past y ∙ j k _ tt
 
                     pub declares_table : (s : Place) (t₈ : Text) → t₇ ≡ reads (mark Semicolon s) t₈ → (ts₂ : List ATable) → ts₂ ≡ ts ++ (record { name = n; size = c; range = g₂ } ∷ []) → (vs₂ : List Variable) → vs₂ ≡ vs →
                         Declares vs vs₂ ts ts₂ t t₈

@@ -1,13 +1,12 @@
 -- Steps of the loops of the word reader.
-use Rattle.std.proofs.Common.{◌≡◌, ℕ, ◌+◌, ◌-◌, ◌*◌, ◌<◌, ◌≤◌, Bool, true, false, cond, ◌||◌, eqb, leb, List, [], ◌∷◌, length, get_or, drop, Some, None, Decides, sym, refl, ap, ◌∙◌, arith}
+use Rattle.std.proofs.Common.{◌≡◌, ℕ, ◌+◌, ◌-◌, ◌*◌, ◌<◌, ◌≤◌, Bool, true, false, cond, ◌||◌, eqb, leb, List, [], ◌∷◌, length, get_or, drop, Some, None, sym, refl, ap, ◌∙◌, arith}
 use Rattle.std.proofs.lemmas.List.{drop_more, drop_all}
 use Rattle.std.proofs.lemmas.Option.{none-some, same_Some}
 use Rattle.std.specs.List.{slice_get}
 use Rattle.std.proofs.lemmas.Bool.{cond-true, cond-false, cond_both, lt-leb, or_left}
-use Rattle.words.specs.Words.{run, behind, onward, value, same, Part, letter, digit, inner, letters_next, digits_next, part, symbol_part, symbols, symbol_in}
+use Rattle.words.specs.Words.{run, behind, onward, value, Part, letter, digit, inner, letters_next, digits_next, part, symbol_part, symbols, symbol_in}
 use Rattle.words.specs.Reader.{within}
 use Rattle.refusal.specs.declared.Place.{Place}
-use Rattle.std.proofs.lemmas.Slice.Eq.{compares_Decides}
 
 pub run_stop : (f : ℕ → Bool) (bs : List ℕ) (n : ℕ) → n < length bs → f (get_or bs n 0) ≡ false → length (run f (drop n bs)) ≡ 0
 run_stop f bs n h e =
@@ -47,9 +46,6 @@ pub both_ways : (r b : Bool) → (r ≡ true → b ≡ true) → (b ≡ true →
 both_ways true b f g = sym (f refl)
 both_ways false true f g = g refl
 both_ways false false f g = refl
-
-pub same_decides : (xs ys : List ℕ) → Decides (same xs ys) (xs ≡ ys)
-same_decides = compares_Decides same (record { empty = refl; shorter = λ y ys. refl; longer = λ x xs. refl; heads = λ x y xs ys. refl })
 
 -- digits whose value has come over the most
 pub too_large : (ds : List ℕ) (i n m : ℕ) → i < length ds → value 0 ds ≡ value n (drop i ds) → m ≤ n * 10 + (get_or ds i 0 - 48) → 2147483647 < m → None ≡ within 2147483647 (value 0 ds)
