@@ -12,6 +12,7 @@ use crate::{Alternative, Book, Entry, Term, Terms, Test};
 use kinds::Kind;
 
 // The right side of an unknown: its value, and the first alternative that reaches it, if there is any.
+// The value stands outside of the `Option`: where there is no alternative it is least, and is read like any other.
 #[derive(Clone, Copy, PartialEq, Eq, Debug)]
 pub struct RightSide<V> {
     pub value: V,

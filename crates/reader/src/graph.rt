@@ -18,7 +18,7 @@ pub struct Graph {
     points: usize,
     edges: Vec<Edge>,
     lookups: Vec<Lookup>,
-    // for each point the edges to it, in the order made
+    // for each point the edges to it, in the order made; `points` beside it, since the facts below speak of a number and not of this list
     incoming: Vec<Vec<Edge>>,
     ghost few_points: { points ≤ 96 },
     ghost few_variables: { vec_len variables ≤ 8 },

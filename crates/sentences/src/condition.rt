@@ -13,6 +13,7 @@ use language::Action;
 use refusal::{Reason, Refusal};
 use words::Mark;
 
+// How two values lie.
 #[derive(Clone, Copy)]
 pub enum Order {
     Below,
@@ -21,13 +22,15 @@ pub enum Order {
     AtLeast,
 }
 
+// What a variable is compared with: another, by its number, or a constant.
 #[derive(Clone, Copy)]
 pub enum Operand {
     Against(usize),
     Limit(i64),
 }
 
-// A variable compared with another or with a constant.
+// A variable compared with another or with a constant. That the constant is small is said by the clauses: as a ghost field
+// of this type it would be owed by the definition `condition_of` too, and a tree's constants may be of any size.
 #[derive(Clone, Copy)]
 pub struct Condition {
     pub left: usize,

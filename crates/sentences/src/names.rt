@@ -15,7 +15,7 @@ pub struct Names {
     pub tables: Vec<Table>,
 }
 
-// What is declared under a name.
+// What is declared under a name, and the name as bytes.
 pub trait Named {
     ghost called: { Self → List ℕ };
 
@@ -86,7 +86,8 @@ impl Names {
             || position(self.tables.as_slice(), name).is_some()
     }
 
-    // The number of the variable of this name, which stands at this place.
+    // The number of the variable of this name, which stands at this place. A name is taken first and looked up then:
+    // which rule holds at a name depends on what stands before it, and one call would owe both refusals in one clause.
     pub(crate) fn variable(&self, name: &[u8], place: Place) -> Result<usize, Refusal>
         ensures { Finds name.now (var_names (vars_of self.now)) place result }
     {
@@ -100,7 +101,7 @@ impl Names {
         find(self.tables.as_slice(), name, place)
     }
 
-    // The size and the range of a table; 0 and 0..0 where there is none.
+    // The size and the range of a table; 0 and 0..0 where there is none, as in the definition of a drawing, and no `Option`: whoever asks has found the table.
     pub(crate) fn shape(&self, table: usize) -> (u32, Range)
         ensures { (result.0 ≡ (slice_index_or (tabs_of self.now) table no_table).size) × (result.1 ≡ (slice_index_or (tabs_of self.now) table no_table).range) }
     {

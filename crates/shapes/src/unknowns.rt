@@ -32,7 +32,7 @@ impl Unknown {
     }
 
     // In a grid, the one above it, and in the first row the one before.
-    // By cases: the one above or else the one before takes a tenth more instructions in a chain and three tenths more in a grid.
+    // By cases: as `above` or else `before` it takes three tenths more instructions in a grid, where the figures of docs/PERFORMANCE.md are the bar.
     pub(crate) fn entry(self) -> Option<usize>
         ensures { result ≡ (if self.place == 0 then None else Some (if nat_lt self.place 8 then self.place - 1 else self.place - 8)) }
     {

@@ -74,6 +74,7 @@ fn make_all<K: Kind, B: Book<K>>(
 
 // Sets an analysis of the book up in the front of the list, makes the calls one after another, whatever they are, and puts their answers down in order.
 // Answers the counted rounds that are shown at the end. Refused if the list is shorter than the book or the answers are fewer than the calls.
+// Calls and answers are two lists, since both are lent and the calls are only read.
 pub fn make_calls<K: Kind, B: Book<K>>(
     book: &B,
     list: &mut [Entry<K>],

@@ -40,7 +40,7 @@ fn relax<K: Kind, B: Book<K>>(book: &B, list: &mut [Entry<K>], unknown: usize) -
     true
 }
 
-// Whether two values are equal. By the order: a kind has no other test of equality.
+// Whether two values are equal. By the order: a bound `PartialEq` on kinds would ask more of whoever writes one.
 fn same<K: Kind>(value: K, other: K) -> bool
     ensures { Made K.Kind.ops most_items value → Made K.Kind.ops most_items other → (result ≡ true) ↔ (value ≡ other) }
 {
@@ -48,7 +48,7 @@ fn same<K: Kind>(value: K, other: K) -> bool
 }
 
 // Gives every unknown the smaller of its chosen terms, in order and in place. Says whether a value changed.
-// No one function with `improve` over a closure: what the list keeps after each step is another fact, and a clause would owe it for every closure.
+// Not one loop with `improve` over a closure: the invariants differ, and a shared loop would have to state one for every closure.
 fn sweep<K: Kind, B: Book<K>>(book: &B, list: &mut [Entry<K>]) -> bool
     ensures sweeps { ShortSweep K.Kind.ops (B.Book.meaning book.now) list.old → SweepsAll K.Kind.ops (B.Book.meaning book.now) list.old list.new }
     ensures strategy { choices list.new ≡ choices list.old }

@@ -102,7 +102,7 @@ fn solve<K: Plain, B: Book<K>>(
 ) -> Result<(), Refusal> {
     let count = book.count();
     let equations = read_equations(heap, book)?;
-    // `as`: there are at most 12, and no `From` leads from `usize` to `i64`.
+    // `as`: a book has at most 1,536 unknowns, and no `From` leads from `usize` to `i64`.
     let cap = MOST_CONSTANT.saturating_mul(count as i64);
     let ascent = ascend(heap, equations.as_slice(), count, cap)?;
     let mut analysis = Living::set_up(heap, book, list)?;

@@ -22,7 +22,7 @@ abbrev pub sized : Option Spelling → Option (ℕ × Mark)
 sized (Some s) = Some (length s.bytes, s.mark)
 sized None = None
 
--- a number, if it is at most the first
+-- the second number, if it is no larger than the first
 abbrev pub within : ℕ → ℕ → Option ℕ
 within most n = cond (nat_le n most) (Some n) None
 

@@ -9,18 +9,21 @@ use refusal::Place;
 // A number is at most this.
 const MOST_NUMBER: u32 = 2147483647;
 
+// Whether a name may begin with it.
 pub(crate) fn is_letter(b: u8) -> bool
     ensures { result ≡ letter b }
 {
     b.is_ascii_lowercase()
 }
 
+// Whether a number may begin with it.
 pub(crate) fn is_digit(b: u8) -> bool
     ensures { result ≡ digit b }
 {
     b.is_ascii_digit()
 }
 
+// Whether it may stand inside a name.
 pub(crate) fn is_inner(b: u8) -> bool
     ensures { result ≡ inner b }
 {

@@ -44,7 +44,7 @@ pub enum Word<'a> {
 }
 
 // Why no word stands in a script, and where it would begin.
-#[derive(Clone, Copy)]
+#[derive(Clone, Copy, PartialEq, Eq, Debug)]
 pub struct Fault {
     pub reason: Reason,
     pub place: Place,

@@ -16,6 +16,7 @@ use refusal::{Place, Reason};
 // A name has at most this many bytes.
 const LONGEST_NAME: usize = 16;
 
+// A name, or a reserved word.
 fn letters(bytes: &[u8]) -> Result<Word<'_>, Reason>
     ensures { (p : Place) → word_at p result ≡ letters_next bytes.now p }
 {
@@ -28,6 +29,7 @@ fn letters(bytes: &[u8]) -> Result<Word<'_>, Reason>
     })
 }
 
+// A number.
 fn digits(bytes: &[u8]) -> Result<Word<'_>, Reason>
     ensures { (p : Place) → word_at p result ≡ digits_next bytes.now p }
 {
