@@ -1,6 +1,6 @@
 use Rattle.std.proofs.Common.{sym, ◌∙◌}
 use Rattle.words.specs.Words.{inner, digit}
-use Rattle.words.proofs.Finding.{or_end, finds_letter, finds_digit, finds_symbol, finds_fault, part_within}
+use Rattle.words.proofs.Finding.{or_end, finds_letter, finds_digit, finds_symbol, part_within}
 use Rattle.words.proofs.reader.steps.part_of.Goals as goal
 
 pub returns-then-is_letter-clause-finds : goal.returns-then-is_letter-clause-finds
@@ -23,10 +23,3 @@ pub returns-in-Some-symbol_at-clause-finds : goal.returns-in-Some-symbol_at-clau
 returns-in-Some-symbol_at-clause-finds c p =
     finds_symbol c.args.text.now c.in-Some.first.now p c.in-Some-symbol_at.n c.in-Some-symbol_at.mark c.in-Some.ensures.value (sym c.if-is_letter.ensures)
     (sym c.if-is_digit.ensures) c.in-Some-symbol_at.ensures
-
-pub returns-in-Some-symbol_at-clause-within : goal.returns-in-Some-symbol_at-clause-within
-returns-in-Some-symbol_at-clause-within c = part_within (returns-in-Some-symbol_at-clause-finds c _)
-
-pub returns-in-None-clause-finds : goal.returns-in-None-clause-finds
-returns-in-None-clause-finds c p =
-    finds_fault c.args.text.now c.in-Some.first.now p c.in-Some.ensures.value (sym c.if-is_letter.ensures) (sym c.if-is_digit.ensures) c.in-None.ensures
