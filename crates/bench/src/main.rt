@@ -16,7 +16,7 @@ use std::alloc::Global;
 use std::{env, fmt};
 
 // What a run came to: the unknowns, the counted rounds, whether the analysis is settled, and the largest value.
-// A flag beside the others and no `Option`: they are told in both cases.
+// A flag beside the others, not an `Option`: they are told in both cases.
 #[derive(Clone, Copy)]
 struct Outcome {
     unknowns: usize,

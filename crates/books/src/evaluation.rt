@@ -1,5 +1,5 @@
 // What the parts of a book are worth at the values of a list of entries. An unknown that is not in the list counts as least.
-// `Short` is a premise and no invariant of a type: a list comes from any caller, and no test tells of how many items a value is made.
+// `Short` is a premise, not an invariant of a type: a list comes from any caller, and no test tells of how many items a value is made.
 ghost use Rattle.std.specs.Prelude.{◌≡◌, ℕ, not, [], slice_index_or};
 ghost use Rattle.kinds.specs.Kinds.{Made};
 ghost use Rattle.kinds.specs.Limits.{most_items};

@@ -68,7 +68,7 @@ impl Chance {
         if number >= self.width(unknown)? {
             return Err(Refusal::unplaced(Reason::NotThere));
         }
-        // `as`: it is below 5, and no `From` leads from `usize` to `u32`.
+        // `as`: it is below 4, and no `From` leads from `usize` to `u32`.
         Ok(self.site(unknown, number as u32)?.alternative())
     }
 }

@@ -54,7 +54,7 @@ impl Drawn for Bound {
 
     // From -3 to 3.
     fn weight(number: u64) -> i64 {
-        // `as`: as for a whole number.
+        // `as`: a remainder fits, as in `whole`.
         (number % 7) as i64 - 3
     }
 }

@@ -2,7 +2,7 @@
 ghost use Rattle.std.specs.Prelude.{◌≡◌, ◌<◌};
 ghost use Rattle.chance.specs.Spots.{prime, place_of, at_part, blended, stirred, drawn};
 
-// A part of an alternative, by its number from 0.
+// A part of an alternative; `as` gives each its number, from 0.
 #[derive(Clone, Copy)]
 pub(crate) enum Part {
     Whole,
@@ -10,7 +10,7 @@ pub(crate) enum Part {
     Second,
 }
 
-// What a number is drawn for, by its number from 0.
+// What a number is drawn for; `as` gives each its number, from 0.
 #[derive(Clone, Copy)]
 pub(crate) enum Purpose {
     Alternatives,

@@ -12,7 +12,7 @@ pub use bound::Bound;
 pub use grade::{Grade, NoWeight};
 
 // A kind of value. Its functions take any operands. They answer by the meaning wherever these are sums of up to `most_items` constants, weights and thresholds of allowed size.
-// That is a premise and no invariant of a type: operands come from any book, and no test tells of how many items a value is made.
+// That is a premise, not an invariant of a type: operands come from any book, and no test tells of how many items a value is made.
 pub trait Kind: Copy {
     // what a value is shifted by
     type Weight: Copy;

@@ -12,7 +12,7 @@ pub struct Range {
 }
 
 // Where a value comes from: written in the script, sensed by the station, or heard over the air.
-// Not the grades of the solver: a script says one of these wherever it says a value, and there is no least among them.
+// Not the grades of the solver: there is no source for what nothing reaches, and sources have no order.
 #[derive(Clone, Copy)]
 pub enum Source {
     Written,

@@ -137,7 +137,7 @@ impl From<AllocError> for Refusal {
     }
 }
 
-// Written twice: the library has two errors for want of memory, and they are no instances of one type.
+// Written twice: the library has two errors for want of memory, and they are not instances of one type.
 impl<T: Drop> From<AllocFailed<T>> for Refusal {
     ghost from_gives = { λ _ r. r ≡ no_memory };
 

@@ -67,7 +67,7 @@ impl<'a> Script<'a> {
     }
 }
 
-// Takes a comparison: one mark after another, since the last is the one that a text in fault is told to lack.
+// Takes a comparison: one mark after another; the last by `mark`, which refuses whatever is none of them.
 fn read_operator(s: &mut Sentence) -> Result<Order, Refusal>
     ensures { MatchResult result (λ x. (o : grammar.Order) × (x ≡ order_of o) × Over (operator ∷ []) Anywhere (is_operator o) (left_of s.old) (left_of s.new)) (λ e. TurnsBack (operator ∷ []) Anywhere (left_of s.old) e) }
 {

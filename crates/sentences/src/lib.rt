@@ -24,7 +24,7 @@ use script::Script;
 use statements::Scribe;
 
 // A variable, with the range of its start values.
-// Its name is bytes and no `String`: a script is bytes, and a name is part of them.
+// Its name is bytes, not a `String`: a script is bytes, and a name is part of them.
 #[derive(Drop)]
 pub struct Variable {
     pub name: Vec<u8>,

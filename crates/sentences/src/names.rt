@@ -53,14 +53,14 @@ fn is_called<T: Named>(x: &T, name: &[u8]) -> bool
     same_name(name, x.name())
 }
 
-// The number of the first that has this name. From the front and by no map: there are at most eight, numbered as declared.
+// The number of the first that has this name. Searched from the front, without a map: there are at most eight, numbered as declared.
 fn position<T: Named>(list: &[T], name: &[u8]) -> Option<usize>
     ensures { LooksUp name.now (map T.Named.called list.now) result }
 {
     list.iter().position(|x| is_called(x, name))
 }
 
-// The number of the first that has this name, which stands at this place.
+// The number of the first that has this name; if none has, the refusal at the place where the name stands.
 fn find<T: Named>(list: &[T], name: &[u8], place: Place) -> Result<usize, Refusal>
     ensures { Finds name.now (map T.Named.called list.now) place result }
 {
@@ -86,22 +86,22 @@ impl Names {
             || position(self.tables.as_slice(), name).is_some()
     }
 
-    // The number of the variable of this name, which stands at this place. A name is taken first and looked up then:
-    // which rule holds at a name depends on what stands before it, and one call would owe both refusals in one clause.
+    // The number of the variable of this name; if there is none, the refusal at the place where the name stands.
+    // Callers take the name first: a call that took and looked up would have to promise both refusals in one clause.
     pub(crate) fn variable(&self, name: &[u8], place: Place) -> Result<usize, Refusal>
         ensures { Finds name.now (var_names (vars_of self.now)) place result }
     {
         find(self.variables.as_slice(), name, place)
     }
 
-    // The number of the table of this name, which stands at this place.
+    // The number of the table of this name; if there is none, the refusal at the place where the name stands.
     pub(crate) fn table(&self, name: &[u8], place: Place) -> Result<usize, Refusal>
         ensures { Finds name.now (table_names (tabs_of self.now)) place result }
     {
         find(self.tables.as_slice(), name, place)
     }
 
-    // The size and the range of a table; 0 and 0..0 where there is none, as in the definition of a drawing, and no `Option`: whoever asks has found the table.
+    // The size and the range of a table; 0 and 0..0 where there is none, as in the definition of a drawing. Not an `Option`: whoever asks has found the table.
     pub(crate) fn shape(&self, table: usize) -> (u32, Range)
         ensures { (result.0 ≡ (slice_index_or (tabs_of self.now) table no_table).size) × (result.1 ≡ (slice_index_or (tabs_of self.now) table no_table).range) }
     {

@@ -51,7 +51,7 @@ impl Shape {
     }
 }
 
-// An alternative of a chain, at an unknown that follows this one, if it follows any.
+// An alternative of a chain, for the unknown that follows `before`, or for the first if there is none.
 fn chain(before: Option<usize>, number: usize) -> Option<Alternative<Bound, i64>>
     ensures { result ≡ nth (link_of before ∷ []) number }
 {

@@ -6,7 +6,7 @@ ghost use Rattle.shapes.specs.Shapes.{height as height_of};
 // The columns of a grid.
 const COLUMNS: usize = 8;
 
-// An unknown of a book of so many.
+// An unknown of a book of `size` unknowns.
 #[derive(Clone, Copy)]
 pub(crate) struct Unknown {
     pub(crate) place: usize,
@@ -32,7 +32,7 @@ impl Unknown {
     }
 
     // In a grid, the one above it, and in the first row the one before.
-    // By cases: as `above` or else `before` it takes three tenths more instructions in a grid, where the figures of docs/PERFORMANCE.md are the bar.
+    // Written by cases: with `checked_sub(COLUMNS)` and else `before`, a grid takes three tenths more instructions (docs/PERFORMANCE.md has the bar).
     pub(crate) fn entry(self) -> Option<usize>
         ensures { result ≡ (if self.place == 0 then None else Some (if nat_lt self.place 8 then self.place - 1 else self.place - 8)) }
     {

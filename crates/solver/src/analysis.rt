@@ -21,7 +21,7 @@ pub const MOST_ROUNDS: usize = u16::MAX as usize;
 
 // The list that an analysis was lent, one entry for each unknown of its book, and the counted rounds since set-up or restart (65,535 if more).
 // Lent, so that the solver needs no heap. Every call that takes a book is given the book of the set-up. With another one it stays within the list and ends, and says nothing.
-// That it still has the same list (`same_list`) stands at each method: it is about a reference before and after, which no invariant of the type tells.
+// That it still has the same list (`same_list`) stands at each method that writes: it is about a reference before and after, which no invariant of the type tells.
 #[derive(Drop)]
 pub struct Analysis<'a, K> {
     list: &'a mut [Entry<K>],

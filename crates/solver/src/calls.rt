@@ -12,7 +12,7 @@ use books::{Book, Entry};
 use kinds::Kind;
 use refusal::{Reason, Refusal};
 
-// A call of an analysis: a value and no closure, since `make_calls` promises something of every list of calls.
+// A call of an analysis: a value, not a closure, since `make_calls` promises something of every list of calls.
 #[derive(Clone, Copy)]
 pub enum Call {
     Round,

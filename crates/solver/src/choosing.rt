@@ -1,6 +1,6 @@
 // Improvement of a strategy, and whether there is nothing left to improve.
 // Book and list go side by side: with a struct of both, each function would owe one clause more, that it keeps its reference to the list.
-// That values are short is a premise and no invariant: a call may give another book than the set-up, and then nothing is known of the list, and nothing refused.
+// That values are short is a premise, not an invariant: a call may give another book than the set-up, and then nothing is known of the list, and nothing refused.
 ghost use Rattle.std.specs.Prelude.{◌≡◌, ◌<◌, true, false, ◌↔◌, length};
 ghost use Rattle.books.specs.Entries.{values, Short};
 ghost use Rattle.strategy.specs.Solving.{Settled};

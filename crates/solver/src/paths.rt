@@ -40,7 +40,7 @@ fn relax<K: Kind, B: Book<K>>(book: &B, list: &mut [Entry<K>], unknown: usize) -
     true
 }
 
-// Whether two values are equal. By the order: a bound `PartialEq` on kinds would ask more of whoever writes one.
+// Whether two values are equal. By the order: to require `PartialEq` of kinds would ask more of whoever writes one.
 fn same<K: Kind>(value: K, other: K) -> bool
     ensures { Made K.Kind.ops most_items value → Made K.Kind.ops most_items other → (result ≡ true) ↔ (value ≡ other) }
 {

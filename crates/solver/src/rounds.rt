@@ -8,7 +8,7 @@ use books::{Book, Entry};
 use kinds::Kind;
 
 // What a round or a run came to: the counted rounds that it made, and whether the analysis is settled then.
-// A flag beside the rounds and no `Option`: they are told in both cases.
+// A flag beside the rounds, not an `Option`: the rounds are told in both cases.
 #[derive(Clone, Copy)]
 pub struct Progress {
     pub rounds: u16,

@@ -31,7 +31,7 @@ pub struct Tally {
     pub first_wrong: Option<u32>,
 }
 
-// What came of the books of a kind, by the names of its levels.
+// What came of the books of a kind, with the names of its levels.
 #[derive(Clone, Copy)]
 pub struct Report {
     pub names: Names,

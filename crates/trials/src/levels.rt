@@ -5,7 +5,7 @@ use refusal::Refusal;
 use std::alloc::Global;
 
 // A value of either kind: the lowest, a number between, or the highest; in this order.
-// This type and those below are no `Bound`, `Term` and `Test`: this solver shares nothing with the one that it is there to try.
+// This type and those below are not `Bound`, `Term` and `Test`: this solver shares no values and no evaluation with the one that it is there to try.
 #[derive(Clone, Copy, PartialEq, Eq, PartialOrd, Ord)]
 pub enum Level {
     Lowest,
@@ -47,7 +47,7 @@ pub struct Names {
     pub highest: &'static str,
 }
 
-// A kind that can be read as levels: its values, its weights and its joint test, which is why it is a trait and no `From`.
+// A kind that can be read as levels: its values, its weights and its joint test, which is why this is a trait, not a `From`.
 pub trait Plain: Kind {
     const NAMES: Names;
 

@@ -17,7 +17,7 @@ pub struct Seen {
 }
 
 // What one or more runs came to: the rounds that they answered, whether no run made more than its budget, and whether the last was settled.
-// Flags beside the rounds and no `Result`: lives are compared in all three, whatever they are.
+// Flags beside the rounds, not a `Result`: lives are compared in all three.
 #[derive(Clone, Copy, PartialEq)]
 pub struct Course {
     pub rounds: u16,

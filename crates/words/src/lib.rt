@@ -43,7 +43,7 @@ pub enum Word<'a> {
     Sign(Mark),
 }
 
-// Why no word stands in a script, and where it would begin.
+// Why no word stands at a place of a script, and that place.
 #[derive(Clone, Copy, PartialEq, Eq, Debug)]
 pub struct Fault {
     pub reason: Reason,
