@@ -2,7 +2,7 @@
 use Rattle.std.specs.Prelude.{ℕ, List, Some, None, codes}
 use Rattle.refusal.specs.declared.Place.{Place}
 use Rattle.refusal.specs.declared.Reason.{Reason}
-use Rattle.refusal.specs.declared.Reason.TheVariants.{ScriptTooLong, NoWord, NumberTooLarge, NameTooLong, Unexpected, TooDeep, DeclaredBefore, Undeclared, RangeFalls, TableSize, SameName, TooManyNames, TooManyPoints, NotThere, BudgetTooLarge, ListTooShort, OutOfMemory}
+use Rattle.refusal.specs.declared.Reason.TheVariants.{ScriptTooLong, NoWord, NumberTooLarge, NameTooLong, Unexpected, TooDeep, DeclaredBefore, Undeclared, RangeFalls, TableSize, SameName, TooManyNames, TooManyPoints, NotThere, NotSettled, BudgetTooLarge, ListTooShort, OutOfMemory}
 use Rattle.refusal.specs.declared.Layer.{Layer}
 use Rattle.refusal.specs.declared.Layer.TheVariants.{Words, Sentence, Names, Graph, Solving, Memory}
 use Rattle.refusal.specs.declared.Refusal.{Refusal}
@@ -22,6 +22,7 @@ number_of SameName = 11
 number_of TooManyNames = 12
 number_of TooManyPoints = 13
 number_of NotThere = 30
+number_of NotSettled = 31
 number_of BudgetTooLarge = 32
 number_of ListTooShort = 33
 number_of OutOfMemory = 90
@@ -41,6 +42,7 @@ layer_of SameName = Names
 layer_of TooManyNames = Names
 layer_of TooManyPoints = Graph
 layer_of NotThere = Solving
+layer_of NotSettled = Solving
 layer_of BudgetTooLarge = Solving
 layer_of ListTooShort = Solving
 layer_of OutOfMemory = Memory

@@ -42,6 +42,7 @@ pub enum Reason {
     TooManyNames = 12,
     TooManyPoints = 13,
     NotThere = 30,
+    NotSettled = 31,
     BudgetTooLarge = 32,
     ListTooShort = 33,
     OutOfMemory = 90,
@@ -70,7 +71,8 @@ impl Reason {
             | Reason::SameName
             | Reason::TooManyNames => Layer::Names,
             Reason::TooManyPoints => Layer::Graph,
-            Reason::NotThere | Reason::BudgetTooLarge | Reason::ListTooShort => Layer::Solving,
+            Reason::NotThere | Reason::NotSettled | Reason::BudgetTooLarge | Reason::ListTooShort =>
+                Layer::Solving,
             Reason::OutOfMemory => Layer::Memory,
         }
     }
