@@ -18,3 +18,4 @@ pub mod Turns
 pub mod Lived
 pub mod Calls
 pub mod Making
+pub mod Asking

@@ -1,5 +1,5 @@
 -- What the contract of a call of an analysis says: every life that led to the list and the count before it goes on with it, and keeps the promises.
-use Rattle.std.specs.Prelude.{◌≡◌, ℕ, ◌<◌, ◌≤◌, List, [], length, replicate, None, Option, Result, MatchResult, slice_index_or}
+use Rattle.std.specs.Prelude.{◌≡◌, ℕ, ◌<◌, ◌≤◌, List, [], ◌∷◌, length, replicate, None, Option, Result, MatchResult, slice_index_or}
 use Rattle.refusal.specs.Reasons.{nowhere}
 use Rattle.refusal.specs.declared.Refusal.{Refusal}
 use Rattle.refusal.specs.declared.Reason.TheVariants.{NotThere}
@@ -9,7 +9,9 @@ use Rattle.books.specs.Entries.{values, choices}
 use Rattle.books.specs.Forms.{Well}
 use Rattle.books.specs.declared.Alternative.{Alternative}
 use Rattle.books.specs.declared.Entry.{Entry}
-use Rattle.strategy.specs.Lives.{State, Call, Answer, Life}
+use Rattle.strategy.specs.Lives.{State, Call, Answer, Event, event, Life}
+use Rattle.strategy.specs.Lives.Call.{one_round, run, restart, value_of, choice_of, rounds_shown, question}
+use Rattle.strategy.specs.Lives.Answer.{made, done, value, choice, number, told, refused}
 use Rattle.strategy.specs.Promises.{Promises, GoesOn}
 
 -- the state of an analysis with this list and this count of rounds
@@ -19,6 +21,32 @@ state es shown = record { strategy = choices es; values = values es; shown = sho
 -- no questions besides those for a value, a choice and the rounds
 abbrev pub unasked : {V : Type 0} → State V → ⊥ → ⊥
 unasked s q = q
+
+-- the same call where questions may be asked besides
+abbrev pub call_with : {Q : Type 0} → Call ⊥ → Call Q
+call_with one_round = one_round
+call_with (run b) = run b
+call_with restart = restart
+call_with (value_of u) = value_of u
+call_with (choice_of u) = choice_of u
+call_with rounds_shown = rounds_shown
+call_with (question q) = absurd q
+
+-- the same answer where questions may be asked besides
+abbrev pub answer_with : {V A : Type 0} → Answer V ⊥ → Answer V A
+answer_with (made k b) = made k b
+answer_with done = done
+answer_with (value x) = value x
+answer_with (choice k) = choice k
+answer_with (number k) = number k
+answer_with (told a) = absurd a
+answer_with (refused k) = refused k
+
+-- the first history without its questions is the second
+pub data WithoutQuestions {Q V A : Type 0} : List (Event Q V A) → List (Event ⊥ V ⊥) → Type 0 where
+  none : WithoutQuestions [] []
+  left_out : {h : List (Event Q V A)} {h' : List (Event ⊥ V ⊥)} (q : Q) (a : Answer V A) → WithoutQuestions h h' → WithoutQuestions (event (question q) a ∷ h) h'
+  kept : {h : List (Event Q V A)} {h' : List (Event ⊥ V ⊥)} (c : Call ⊥) (a : Answer V ⊥) → WithoutQuestions h h' → WithoutQuestions (event (call_with c) (answer_with a) ∷ h) (event c a ∷ h')
 
 -- an entry as at set-up: the least value and no choice
 abbrev pub fresh_entry : {V W : Type 0} → Ops V W → Entry V
