@@ -1,0 +1,9 @@
+pub mod Edges
+pub mod Sound
+pub mod Settling
+pub mod Listing
+pub mod Sizes
+pub mod Meeting
+pub mod Passing
+pub mod Pairs
+pub mod Whole

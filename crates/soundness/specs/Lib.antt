@@ -1,0 +1,5 @@
+pub mod Runs
+pub mod Intervals
+pub mod Findings
+pub mod Questions
+pub mod Kept
