@@ -1,0 +1,4 @@
+pub mod Drawings
+pub mod Resting
+pub mod Running
+pub mod Whole
