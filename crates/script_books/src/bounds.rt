@@ -1,0 +1,113 @@
+// The bound book of a graph.
+ghost use Rattle.std.specs.Prelude.{◌≡◌, ◌<◌, false, ◌&&◌, nat_lt, MatchResult, cond};
+ghost use Rattle.refusal.specs.Reasons.{nowhere};
+ghost use Rattle.refusal.specs.declared.Reason.TheVariants.{NotThere};
+ghost use Rattle.books.specs.Books.{nth};
+ghost use Rattle.books.specs.Questions.{found};
+ghost use Rattle.equations.specs.Bounds.{bound_book, uppers, lowers, variables_of, upper as upper_at};
+ghost use Rattle.reader.specs.Meaning.{meaning};
+ghost use Rattle.script_books.specs.Fitted.{bounds_well};
+
+use crate::ends::{Choice, lower_of, negated, upper_of};
+use crate::spots::{Spot, edge_to, number_of, spot_of, start_of};
+use books::{Alternative, Book};
+use kinds::Bound;
+use reader::graph::Graph;
+use refusal::{Reason, Refusal};
+
+// The equations of how far each variable of a script can go at each point. A view of the graph: an alternative is computed from its edge when it is asked for.
+#[derive(Clone, Copy)]
+pub struct BoundBook<'a> {
+    graph: &'a Graph,
+}
+
+impl<'a> BoundBook<'a> {
+    // The book of a graph.
+    pub fn new(graph: &'a Graph) -> BoundBook<'a>
+        ensures { result.graph.now ≡ graph.now }
+    {
+        BoundBook { graph }
+    }
+
+    // The graph whose book it is.
+    pub fn graph(&self) -> &'a Graph
+        ensures { result.now ≡ self.now.graph.now }
+    {
+        self.graph
+    }
+
+    // The unknown of the upper bound of a variable at a point, if both are there. The next one is that of its lower bound, negated.
+    pub fn upper_unknown(&self, point: usize, variable: usize) -> Result<usize, Refusal>
+        ensures { MatchResult result (λ u. (point < self.now.graph.now.points) × (variable < variables_of (meaning self.now.graph.now)) × (u ≡ upper_at (variables_of (meaning self.now.graph.now)) point variable)) (λ e. ((nat_lt point self.now.graph.now.points && nat_lt variable (variables_of (meaning self.now.graph.now))) ≡ false) × (e ≡ nowhere NotThere)) }
+    {
+        Ok(2 * number_of(self.graph, point, variable)?)
+    }
+}
+
+// The alternatives of a variable at point 0: one, an end of its declared range.
+fn declared(graph: &Graph, variable: usize, upper: bool, number: usize) -> Result<Choice, Refusal>
+    requires { variable < variables_of (meaning graph.now) }
+    ensures { result ≡ found (nth (cond upper (uppers (meaning graph.now) 0 variable) (lowers (meaning graph.now) 0 variable)) number) }
+{
+    if number > 0 {
+        return Err(Refusal::unplaced(Reason::NotThere));
+    }
+    let range = graph.variables()[variable].range;
+    let end = if upper {
+        range.high
+    } else {
+        negated(range.low)
+    };
+    Ok(Alternative::constant(Bound::Whole(end)))
+}
+
+// Those at any other point: one for each edge to it.
+fn behind(graph: &Graph, spot: Spot, upper: bool, number: usize) -> Result<Choice, Refusal>
+    requires variable { spot.variable < variables_of (meaning graph.now) }
+    requires point { spot.point < graph.now.points }
+    requires later { 0 < spot.point }
+    ensures { result ≡ found (nth (cond upper (uppers (meaning graph.now) spot.point spot.variable) (lowers (meaning graph.now) spot.point spot.variable)) number) }
+{
+    let edge = edge_to(graph, spot.point, number)?;
+    let start = start_of(graph, edge);
+    Ok(if upper {
+        upper_of(start, spot.variable, edge.action)
+    } else {
+        lower_of(start, spot.variable, edge.action)
+    })
+}
+
+impl Book<Bound> for BoundBook<'_> {
+    ghost meaning = { λ b. bound_book (meaning b.graph.now) };
+
+    ghost well = { λ b. bounds_well b.graph.now };
+
+    // Two for each variable at each point.
+    #[tactic(auto, using(crate::proofs::Edges::bound_count_is))]
+    fn count(&self) -> usize {
+        2 * (self.graph.variables().len() * self.graph.points())
+    }
+
+    // One at point 0, and elsewhere one for each edge to the point.
+    #[tactic(auto, using(books::proofs::Rows::counted_inside, books::proofs::Rows::counted_past, crate::proofs::Edges::bound_width_is))]
+    fn alternatives(&self, unknown: usize) -> Result<usize, Refusal> {
+        let spot = spot_of(self.graph, unknown / 2)?;
+        Ok(if spot.point == 0 {
+            1
+        } else {
+            self.graph.incoming(spot.point).len()
+        })
+    }
+
+    // The declared end at point 0, and elsewhere what the edge says.
+    #[tactic(auto, using(books::proofs::Rows::asked_inside, books::proofs::Rows::asked_past))]
+    fn alternative(&self, unknown: usize, number: usize) -> Result<Choice, Refusal> {
+        let spot = spot_of(self.graph, unknown / 2)?;
+        let upper = unknown % 2 == 0;
+        if spot.point == 0 {
+            declared(self.graph, spot.variable, upper, number)
+        } else {
+            behind(self.graph, spot, upper, number)
+        }
+    }
+}

@@ -1,0 +1,145 @@
+// The grade book of a graph.
+ghost use Rattle.std.specs.Prelude.{◌≡◌, ◌<◌, false, ◌&&◌, nat_lt, MatchResult, [], ◌∷◌};
+ghost use Rattle.kinds.specs.declared.grade.Grade.TheVariants.{Written};
+ghost use Rattle.refusal.specs.Reasons.{nowhere};
+ghost use Rattle.refusal.specs.declared.Reason.TheVariants.{NotThere};
+ghost use Rattle.books.specs.Books.{nth};
+ghost use Rattle.books.specs.Questions.{found};
+ghost use Rattle.books.specs.Forms.{constant};
+ghost use Rattle.graphs.specs.Fitting.{ActionFits};
+ghost use Rattle.equations.specs.Bounds.{variables_of};
+ghost use Rattle.equations.specs.Grades.{grade_book, grade_at, grades_at, grade_of as grade_for, grade_from, grade_copied};
+ghost use Rattle.reader.specs.Meaning.{meaning};
+ghost use Rattle.script_books.specs.Fitted.{grades_well};
+
+use crate::spots::{Spot, edge_to, number_of, spot_of, start_of};
+use crate::start::Start;
+use books::{Alternative, Book, Term, Terms, Test};
+use kinds::{Grade, NoWeight};
+use language::{Action, Source};
+use reader::graph::Graph;
+use refusal::{Reason, Refusal};
+
+// The equations of where the value of each variable of a script comes from at each point. A view of the graph, as the bound book is.
+#[derive(Clone, Copy)]
+pub struct GradeBook<'a> {
+    graph: &'a Graph,
+}
+
+impl<'a> GradeBook<'a> {
+    // The book of a graph.
+    pub fn new(graph: &'a Graph) -> GradeBook<'a>
+        ensures { result.graph.now ≡ graph.now }
+    {
+        GradeBook { graph }
+    }
+
+    // The graph whose book it is.
+    pub fn graph(&self) -> &'a Graph
+        ensures { result.now ≡ self.now.graph.now }
+    {
+        self.graph
+    }
+
+    // The unknown of the grade of a variable at a point, if both are there.
+    pub fn grade_unknown(&self, point: usize, variable: usize) -> Result<usize, Refusal>
+        ensures { MatchResult result (λ u. (point < self.now.graph.now.points) × (variable < variables_of (meaning self.now.graph.now)) × (u ≡ grade_at (variables_of (meaning self.now.graph.now)) point variable)) (λ e. ((nat_lt point self.now.graph.now.points && nat_lt variable (variables_of (meaning self.now.graph.now))) ≡ false) × (e ≡ nowhere NotThere)) }
+    {
+        number_of(self.graph, point, variable)
+    }
+}
+
+// An alternative of grades.
+type Choice = Alternative<Grade, NoWeight>;
+
+// The grade of a value by its source.
+fn graded(source: Source) -> Grade
+    ensures { result ≡ grade_from source }
+{
+    match source {
+        Source::Written => Grade::Written,
+        Source::Sensed => Grade::Sensed,
+        Source::Heard => Grade::Heard,
+    }
+}
+
+// The alternative that is always this unknown.
+fn copied(unknown: usize) -> Choice
+    ensures { result ≡ grade_copied unknown }
+{
+    Alternative::shifted(unknown, NoWeight::Zero)
+}
+
+// The grade of a variable behind an edge.
+fn grade_of(start: Start, variable: usize, action: Action) -> Choice
+    requires named { variable < start.variables }
+    requires fits { ActionFits start.variables action }
+    ensures { result ≡ grade_for start.variables start.point variable action }
+{
+    match action {
+        Action::Any(k, _, source) if variable == k => Alternative {
+            test: Test::Single(start.grade(k), Grade::Written),
+            terms: Terms::One(Term::Constant(graded(source))),
+        },
+        Action::Read(k, i, _) if variable == k => copied(start.grade(i)),
+        Action::Shift(k, i, _) if variable == k => copied(start.grade(i)),
+        Action::Negate(k, i) if variable == k => copied(start.grade(i)),
+        _ => copied(start.grade(variable)),
+    }
+}
+
+// The alternatives of a variable at a point other than the first: one for each edge to it.
+fn behind(graph: &Graph, spot: Spot, number: usize) -> Result<Choice, Refusal>
+    requires variable { spot.variable < variables_of (meaning graph.now) }
+    requires point { spot.point < graph.now.points }
+    requires later { 0 < spot.point }
+    ensures { result ≡ found (nth (grades_at (meaning graph.now) spot.point spot.variable) number) }
+{
+    let edge = edge_to(graph, spot.point, number)?;
+    let start = start_of(graph, edge);
+    Ok(grade_of(start, spot.variable, edge.action))
+}
+
+// Those at point 0: one, since what is declared is written in the script.
+fn declared(number: usize) -> Result<Choice, Refusal>
+    ensures { result ≡ found (nth (constant Written ∷ []) number) }
+{
+    if number > 0 {
+        return Err(Refusal::unplaced(Reason::NotThere));
+    }
+    Ok(Alternative::constant(Grade::Written))
+}
+
+impl Book<Grade> for GradeBook<'_> {
+    ghost meaning = { λ b. grade_book (meaning b.graph.now) };
+
+    ghost well = { λ b. grades_well b.graph.now };
+
+    // One for each variable at each point.
+    #[tactic(auto, using(crate::proofs::Edges::grade_count_is))]
+    fn count(&self) -> usize {
+        self.graph.variables().len() * self.graph.points()
+    }
+
+    // One at point 0, and elsewhere one for each edge to the point.
+    #[tactic(auto, using(books::proofs::Rows::counted_inside, books::proofs::Rows::counted_past, crate::proofs::Edges::grade_width_is))]
+    fn alternatives(&self, unknown: usize) -> Result<usize, Refusal> {
+        let spot = spot_of(self.graph, unknown)?;
+        Ok(if spot.point == 0 {
+            1
+        } else {
+            self.graph.incoming(spot.point).len()
+        })
+    }
+
+    // What is declared at point 0, and elsewhere what the edge says.
+    #[tactic(auto, using(books::proofs::Rows::asked_inside, books::proofs::Rows::asked_past))]
+    fn alternative(&self, unknown: usize, number: usize) -> Result<Choice, Refusal> {
+        let spot = spot_of(self.graph, unknown)?;
+        if spot.point == 0 {
+            declared(number)
+        } else {
+            behind(self.graph, spot, number)
+        }
+    }
+}
