@@ -1,0 +1,12 @@
+use Rattle.strategy.specs.Lives.Call.{rounds_shown}
+use Rattle.strategy.specs.Lives.Answer.{number}
+use Rattle.solver.specs.Analyses.{state_of}
+use Rattle.sessions.proofs.Carrying.{carries}
+use Rattle.sessions.proofs.session.Session.rounds.Goals as goal
+
+pub returns-clause-life : goal.returns-clause-life
+returns-clause-life g c =
+    let m = g.B.Book.meaning c.args.self.now.book in
+    let well = g.met.B.Book.well c.args.self.now.book in
+    let s = state_of c.args.self.now.analysis in
+    carries g.K.Kind.ops g.met.K.Kind.laws m well rounds_shown (number c.rounds.result) s s (c.rounds.ensures.life m well)

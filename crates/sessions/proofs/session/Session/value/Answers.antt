@@ -1,0 +1,13 @@
+use Rattle.strategy.specs.Lives.Call.{value_of}
+use Rattle.strategy.specs.Lives.Answer.{value as shown}
+use Rattle.solver.specs.Answers.{answered}
+use Rattle.solver.specs.Analyses.{state_of}
+use Rattle.sessions.proofs.Carrying.{carries}
+use Rattle.sessions.proofs.session.Session.value.Goals as goal
+
+pub returns-clause-life : goal.returns-clause-life
+returns-clause-life g c =
+    let m = g.B.Book.meaning c.args.self.now.book in
+    let well = g.met.B.Book.well c.args.self.now.book in
+    let s = state_of c.args.self.now.analysis in
+    carries g.K.Kind.ops g.met.K.Kind.laws m well (value_of c.args.unknown) (answered shown c.value.result) s s (c.value.ensures.life m well)

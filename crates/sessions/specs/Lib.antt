@@ -1,0 +1,3 @@
+pub mod Sessions
+pub mod Answers
+pub mod Whole
