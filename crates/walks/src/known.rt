@@ -1,0 +1,164 @@
+// What is known of a script, by the independent solver or by sessions.
+use crate::origins::Origin;
+use crate::spans::{End, Span};
+use kinds::Bound;
+use reader::graph::Graph;
+use refusal::{Place, Refusal};
+use soundness::Finding;
+use std::alloc::Global;
+use std::fmt;
+
+// A variable at a point.
+#[derive(Clone, Copy)]
+pub struct Spot {
+    pub point: usize,
+    pub variable: usize,
+}
+
+// A table read that may fall outside.
+#[derive(Clone, Copy, PartialEq)]
+pub struct Fault {
+    pub point: usize,
+    pub place: Place,
+    pub variable: usize,
+    pub span: Span,
+    pub size: u32,
+}
+
+// For each variable at each point, point by point, its span, if anything reaches the point, and its origin; the faults in the order of the text; and whether all this is at rest.
+#[derive(Drop)]
+pub struct Known {
+    pub variables: usize,
+    pub spans: Vec<Option<Span>>,
+    pub origins: Vec<Origin>,
+    pub faults: Vec<Fault>,
+    pub rests: bool,
+}
+
+// Where two differ.
+#[derive(Clone, Copy)]
+pub enum Difference {
+    Rest,
+    Span(Spot),
+    Origin(Spot),
+    Fault(usize),
+}
+
+impl From<(Bound, Bound)> for Span {
+    fn from((lowest, highest): (Bound, Bound)) -> Span {
+        Span {
+            low: End::from(lowest),
+            high: End::from(highest),
+        }
+    }
+}
+
+impl From<Finding> for Fault {
+    fn from(finding: Finding) -> Fault {
+        Fault {
+            point: finding.point,
+            place: finding.place,
+            variable: finding.variable,
+            span: Span::from((finding.lowest, finding.highest)),
+            size: finding.size,
+        }
+    }
+}
+
+impl fmt::Display for Fault {
+    fn fmt<W: fmt::Write>(&self, f: &mut fmt::Formatter<W>) -> fmt::Result {
+        let Place { line, column } = self.place;
+        let Fault { span, size, .. } = *self;
+        write!(
+            f,
+            "line {line} column {column}: an index in {span} of a table of {size}"
+        )
+    }
+}
+
+impl fmt::Display for Spot {
+    fn fmt<W: fmt::Write>(&self, f: &mut fmt::Formatter<W>) -> fmt::Result {
+        let Spot { point, variable } = *self;
+        write!(f, "variable {variable} at point {point}")
+    }
+}
+
+impl fmt::Display for Difference {
+    fn fmt<W: fmt::Write>(&self, f: &mut fmt::Formatter<W>) -> fmt::Result {
+        match *self {
+            Difference::Rest => f.write_str("one of the solvers is not at rest"),
+            Difference::Span(spot) => write!(f, "the interval of {spot} differs"),
+            Difference::Origin(spot) => write!(f, "the grade of {spot} differs"),
+            Difference::Fault(number) => write!(f, "finding {number} differs"),
+        }
+    }
+}
+
+// Adds the variables at a point.
+fn add_spots(spots: &mut Vec<Spot>, point: usize, variables: usize) -> Result<(), Refusal> {
+    for variable in 0..variables {
+        spots.push(Spot { point, variable })?;
+    }
+    Ok(())
+}
+
+// All variables at all points, point by point.
+pub fn spots_of(heap: Global, graph: &Graph) -> Result<Vec<Spot>, Refusal> {
+    let mut spots = Vec::new(heap);
+    for point in 0..graph.points() {
+        add_spots(&mut spots, point, graph.variables().len())?;
+    }
+    Ok(spots)
+}
+
+// The first entry at which two lists differ.
+fn first_other<T: PartialEq + Copy>(list: &[T], other: &[T]) -> Option<usize> {
+    if list.len() != other.len() {
+        return Some(list.len().min(other.len()));
+    }
+    list.iter().zip(other.iter()).position(|(a, b)| *a != *b)
+}
+
+impl Known {
+    // The variable and the point of a number.
+    fn spot(&self, number: usize) -> Spot {
+        Spot {
+            point: number.checked_div(self.variables).unwrap_or(0),
+            variable: number.checked_rem(self.variables).unwrap_or(0),
+        }
+    }
+
+    // The number of a variable at a point.
+    fn number(&self, point: usize, variable: usize) -> usize {
+        point
+            .saturating_mul(self.variables)
+            .saturating_add(variable)
+    }
+
+    // The span of a variable at a point, if anything reaches the point.
+    pub fn span(&self, point: usize, variable: usize) -> Option<Span> {
+        self.spans
+            .get(self.number(point, variable))
+            .copied()
+            .flatten()
+    }
+
+    // The origin of a variable at a point.
+    pub fn origin(&self, point: usize, variable: usize) -> Origin {
+        let origin = self.origins.get(self.number(point, variable)).copied();
+        origin.unwrap_or(Origin::Nowhere)
+    }
+
+    // Where another one differs first.
+    pub fn difference(&self, other: &Known) -> Option<Difference> {
+        if !self.rests || !other.rests {
+            return Some(Difference::Rest);
+        }
+        let span = first_other(&self.spans, &other.spans);
+        let origin = first_other(&self.origins, &other.origins);
+        let fault = first_other(&self.faults, &other.faults);
+        span.map(|number| Difference::Span(self.spot(number)))
+            .or(origin.map(|number| Difference::Origin(self.spot(number))))
+            .or(fault.map(Difference::Fault))
+    }
+}
