@@ -2,9 +2,9 @@
 use Rattle.std.specs.Prelude.{ℕ, List, Some, None, codes}
 use Rattle.refusal.specs.declared.Place.{Place}
 use Rattle.refusal.specs.declared.Reason.{Reason}
-use Rattle.refusal.specs.declared.Reason.TheVariants.{ScriptTooLong, NoWord, NumberTooLarge, NameTooLong, Unexpected, TooDeep, DeclaredBefore, Undeclared, RangeFalls, TableSize, SameName, TooManyNames, TooManyPoints, NotThere, NotSettled, BudgetTooLarge, ListTooShort, OutOfMemory}
+use Rattle.refusal.specs.declared.Reason.TheVariants.{ScriptTooLong, NoWord, NumberTooLarge, NameTooLong, Unexpected, TooDeep, DeclaredBefore, Undeclared, RangeFalls, TableSize, SameName, TooManyNames, TooManyPoints, NotThere, NotSettled, BudgetTooLarge, ListTooShort, BufferTooShort, OutOfMemory}
 use Rattle.refusal.specs.declared.Layer.{Layer}
-use Rattle.refusal.specs.declared.Layer.TheVariants.{Words, Sentence, Names, Graph, Solving, Memory}
+use Rattle.refusal.specs.declared.Layer.TheVariants.{Words, Sentence, Names, Graph, Solving, Output, Memory}
 use Rattle.refusal.specs.declared.Refusal.{Refusal}
 
 abbrev pub number_of : Reason → ℕ
@@ -25,6 +25,7 @@ number_of NotThere = 30
 number_of NotSettled = 31
 number_of BudgetTooLarge = 32
 number_of ListTooShort = 33
+number_of BufferTooShort = 40
 number_of OutOfMemory = 90
 
 abbrev pub layer_of : Reason → Layer
@@ -45,6 +46,7 @@ layer_of NotThere = Solving
 layer_of NotSettled = Solving
 layer_of BudgetTooLarge = Solving
 layer_of ListTooShort = Solving
+layer_of BufferTooShort = Output
 layer_of OutOfMemory = Memory
 
 -- the word that is printed for a layer
@@ -54,6 +56,7 @@ text_of Sentence = codes "sentence"
 text_of Names = codes "names"
 text_of Graph = codes "graph"
 text_of Solving = codes "solving"
+text_of Output = codes "output"
 text_of Memory = codes "memory"
 
 -- a refusal at a place

@@ -22,6 +22,7 @@ pub enum Layer {
     Names,
     Graph,
     Solving,
+    Output,
     Memory,
 }
 
@@ -45,6 +46,7 @@ pub enum Reason {
     NotSettled = 31,
     BudgetTooLarge = 32,
     ListTooShort = 33,
+    BufferTooShort = 40,
     OutOfMemory = 90,
 }
 
@@ -73,6 +75,7 @@ impl Reason {
             Reason::TooManyPoints => Layer::Graph,
             Reason::NotThere | Reason::NotSettled | Reason::BudgetTooLarge | Reason::ListTooShort =>
                 Layer::Solving,
+            Reason::BufferTooShort => Layer::Output,
             Reason::OutOfMemory => Layer::Memory,
         }
     }
@@ -89,6 +92,7 @@ impl Layer {
             Layer::Names => "names",
             Layer::Graph => "graph",
             Layer::Solving => "solving",
+            Layer::Output => "output",
             Layer::Memory => "memory",
         }
     }
