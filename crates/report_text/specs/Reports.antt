@@ -1,0 +1,46 @@
+-- The report of a script.
+use Rattle.std.specs.Prelude.{ℕ, List, [], ◌++◌, map, length, Some, None, Option, flat_map, slice_index_or}
+use Rattle.std.specs.List.{range_with_len}
+use Rattle.kinds.specs.Values.{grades}
+use Rattle.kinds.specs.declared.bound.Bound.{Bound}
+use Rattle.kinds.specs.declared.grade.Grade.{Grade}
+use Rattle.books.specs.Books.{at}
+use Rattle.language.specs.Graphs.{Graph}
+use Rattle.graphs.specs.Fitting.{no_variable}
+use Rattle.equations.specs.Bounds.{variables_of}
+use Rattle.equations.specs.Grades.{grade_at}
+use Rattle.soundness.specs.Intervals.{interval}
+use Rattle.soundness.specs.Findings.{findings}
+use Rattle.soundness.specs.declared.Finding.{Finding}
+use Rattle.report_text.specs.Texts.{Reach, Row, Found, Report}
+
+-- g is the graph, y are the settled values of its bounds, z those of its grades
+module _ (g : Graph) where
+  -- the name of a variable
+  abbrev pub name_of : ℕ → List ℕ
+  name_of v = (slice_index_or g.variables v no_variable).name
+
+module _ (g : Graph) (y : List Bound) (z : List Grade) where
+  -- the grade of the variable v at the point p
+  abbrev pub grade_there : ℕ → ℕ → Grade
+  grade_there p v = at grades z (grade_at (variables_of g) p v)
+
+  -- what is known of it
+  abbrev pub reach_of : ℕ → ℕ → Option (Bound × Bound) → Option Reach
+  reach_of p v None = None
+  reach_of p v (Some i) = Some (record { lowest = i.0; highest = i.1; grade = grade_there p v })
+
+  abbrev pub row_of : ℕ → ℕ → Row
+  row_of p v = record { point = p; name = name_of g v; reach = reach_of p v (interval g y p v) }
+
+  -- the rows of a point, in the order of the variables
+  abbrev pub rows_at : ℕ → List Row
+  rows_at p = map (row_of p) (range_with_len 0 (variables_of g))
+
+  -- what is found, with the grade of the index
+  abbrev pub found_at : Finding → Found
+  found_at f = record { line = f.place.line; column = f.place.column; name = name_of g f.variable; reach = record { lowest = f.lowest; highest = f.highest; grade = grade_there f.point f.variable }; size = f.size }
+
+  -- the report after so many rounds of the bounds
+  abbrev pub report_of : ℕ → Report
+  report_of rounds = record { points = g.points; rounds = rounds; rows = flat_map rows_at (range_with_len 0 g.points); found = map found_at (findings g y) }
