@@ -1,0 +1,4 @@
+pub mod Lines
+pub mod Reported
+pub mod Gathered
+pub mod Settles

@@ -1,0 +1,123 @@
+// What two settled sessions say of a script, line by line.
+ghost use Rattle.std.specs.Prelude.{◌≡◌, ◌++◌, ◌<◌, map, length, MatchResult};
+ghost use Rattle.kinds.specs.Values.{grades as grades_kind};
+ghost use Rattle.books.specs.Books.{at};
+ghost use Rattle.books.specs.Entries.{values};
+ghost use Rattle.equations.specs.Bounds.{variables_of};
+ghost use Rattle.equations.specs.Grades.{grade_at};
+ghost use Rattle.refusal.specs.Reasons.{no_memory};
+ghost use Rattle.soundness.specs.Findings.{findings};
+ghost use Rattle.reader.specs.Meaning.{meaning};
+ghost use Rattle.report_text.specs.Texts.{lines, line_of, row_fields, found_fields};
+ghost use Rattle.report_text.specs.Reports.{report_of, rows_at, found_at, name_of};
+ghost use Rattle.report.specs.Lines.{found};
+ghost use Rattle.report.specs.Gathered.{SettledOn, texts};
+
+use crate::lines::{end_line, found_line, head_line, row_line};
+use kinds::{Bound, Grade};
+use reader::graph::Graph;
+use refusal::{Place, Reason, Refusal};
+use script_books::{BoundBook, GradeBook};
+use sentences::Named;
+use sessions::Session;
+use soundness::Finding;
+use std::alloc::Global;
+
+// A finding to be written over.
+const BLANK: Finding = Finding {
+    point: 0,
+    place: Place { line: 0, column: 0 },
+    variable: 0,
+    lowest: Bound::Least,
+    highest: Bound::Least,
+    size: 0,
+};
+
+// A session on the bounds of a script, and one on its grades.
+pub(crate) type Bounds<'a> = Session<'a, Bound, BoundBook<'a>>;
+
+pub(crate) type Grades<'a> = Session<'a, Grade, GradeBook<'a>>;
+
+// The lines of a point, one for each variable, behind those that are there.
+fn push_rows(
+    heap: Global,
+    lines: &mut Vec<Vec<u8>>,
+    graph: &Graph,
+    bounds: &Bounds<'_>,
+    grades: &Grades<'_>,
+    point: usize,
+) -> Result<(), Refusal>
+    requires { point < graph.now.points }
+    ensures { SettledOn bounds.now.settled bounds.now.book.graph.now graph.now → SettledOn grades.now.settled grades.now.book.graph.now graph.now → MatchResult result (λ _. texts lines.new.items ≡ texts lines.old.items ++ map (λ r. line_of (row_fields r)) (rows_at (meaning graph.now) (values bounds.now.analysis.list.now) (values grades.now.analysis.list.now) point)) (λ e. e ≡ no_memory) }
+{
+    for (variable, declared) in graph.variables().iter().enumerate() {
+        let interval = bounds.interval(point, variable)?;
+        let grade = grades.grade(point, variable)?;
+        let line = row_line(heap, point, declared.name(), interval, grade)?;
+        lines.push(line)?;
+    }
+    Ok(())
+}
+
+// The findings, in a list of their own.
+fn list_findings(heap: Global, graph: &Graph, bounds: &Bounds<'_>) -> Result<Vec<Finding>, Refusal>
+    ensures { SettledOn bounds.now.settled bounds.now.book.graph.now graph.now → MatchResult result (λ fs. fs.items ≡ findings (meaning graph.now) (values bounds.now.analysis.list.now)) (λ e. e ≡ no_memory) }
+{
+    let mut list = vec![in heap; BLANK; graph.lookups().len()]?;
+    let count = bounds.findings(list.as_mut_slice())?;
+    list.truncate(count);
+    Ok(list)
+}
+
+// The line of a finding.
+fn finding_line(
+    heap: Global,
+    graph: &Graph,
+    grades: &Grades<'_>,
+    finding: Finding,
+) -> Result<Vec<u8>, Refusal>
+    ensures { SettledOn grades.now.settled grades.now.book.graph.now graph.now → finding.point < graph.now.points → finding.variable < variables_of (meaning graph.now) → MatchResult result (λ l. l.items ≡ line_of (found_fields (found finding (name_of (meaning graph.now) finding.variable) (at grades_kind (values grades.now.analysis.list.now) (grade_at (variables_of (meaning graph.now)) finding.point finding.variable))))) (λ e. e ≡ no_memory) }
+{
+    let declared = graph.variables().get(finding.variable);
+    let variable = declared.ok_or(Refusal::unplaced(Reason::NotThere))?;
+    let grade = grades.grade(finding.point, finding.variable)?;
+    found_line(heap, finding, variable.name(), grade)
+}
+
+// The lines of the findings, behind those that are there. Answers how many there are.
+fn push_findings(
+    heap: Global,
+    lines: &mut Vec<Vec<u8>>,
+    graph: &Graph,
+    bounds: &Bounds<'_>,
+    grades: &Grades<'_>,
+) -> Result<usize, Refusal>
+    ensures { SettledOn bounds.now.settled bounds.now.book.graph.now graph.now → SettledOn grades.now.settled grades.now.book.graph.now graph.now → MatchResult result (λ n. (n ≡ length (findings (meaning graph.now) (values bounds.now.analysis.list.now))) × (texts lines.new.items ≡ texts lines.old.items ++ map (λ f. line_of (found_fields (found_at (meaning graph.now) (values bounds.now.analysis.list.now) (values grades.now.analysis.list.now) f))) (findings (meaning graph.now) (values bounds.now.analysis.list.now)))) (λ e. e ≡ no_memory) }
+{
+    let list = list_findings(heap, graph, bounds)?;
+    for finding in &list {
+        let line = finding_line(heap, graph, grades, *finding)?;
+        lines.push(line)?;
+    }
+    Ok(list.len())
+}
+
+// All lines of the report, of settled sessions.
+pub(crate) fn gather(
+    heap: Global,
+    graph: &Graph,
+    bounds: &Bounds<'_>,
+    grades: &Grades<'_>,
+    rounds: u16,
+) -> Result<Vec<Vec<u8>>, Refusal>
+    ensures { SettledOn bounds.now.settled bounds.now.book.graph.now graph.now → SettledOn grades.now.settled grades.now.book.graph.now graph.now → MatchResult result (λ ls. texts ls.items ≡ map line_of (lines (report_of (meaning graph.now) (values bounds.now.analysis.list.now) (values grades.now.analysis.list.now) rounds))) (λ e. e ≡ no_memory) }
+{
+    let mut lines = Vec::new(heap);
+    lines.push(head_line(heap, graph.points(), rounds)?)?;
+    for point in 0..graph.points() {
+        push_rows(heap, &mut lines, graph, bounds, grades, point)?;
+    }
+    let count = push_findings(heap, &mut lines, graph, bounds, grades)?;
+    lines.push(end_line(heap, count)?)?;
+    Ok(lines)
+}
