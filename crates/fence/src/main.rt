@@ -1,14 +1,38 @@
-// Reads a script from standard input, and prints what it was read as or why it is refused.
+// Reads a script from standard input, and prints its report: `fence`. `fence --listing` prints the points and edges of the script, `fence --help` what the program does. A refused script gets one line.
 #![tactic(auto)]
 
-ghost use Rattle.std.specs.Prelude.{◌≤◌, IfOk, vec_len};
+ghost use Rattle.std.specs.Prelude.{◌≤◌, IfOk, MatchResult, vec_len};
+ghost use Rattle.fence.specs.Reporting.{ReportOf, NoReportOf};
 
+use anyhow::anyhow;
 use listing::{Listing, RefusalLine};
-use std::io;
-use std::io::Read;
+use reader::read;
+use refusal::Refusal;
+use report::Report;
+use solver::MOST_ROUNDS;
+use std::alloc::Global;
+use std::io::{Read, Write};
+use std::{env, io};
 
 // One byte past the limit of a script tells that it is too long, so no more is read.
 const ENOUGH: usize = sentences::MOST_BYTES + 1;
+
+const HELP: &str = "fence: a check of receiver scripts
+
+usage: fence < SCRIPT             prints how far each variable can go at each point, how far its
+                                  value can be trusted, and which table reads may fall outside
+       fence --listing < SCRIPT   prints the points and edges of the script
+       fence --help               prints this
+
+A text that is no script gets one line: refused, layer, number, line, column.";
+
+// What the program is asked to do.
+#[derive(Clone, Copy)]
+enum Job {
+    Report,
+    Listing,
+    Help,
+}
 
 // The script on standard input, or as much of it as tells that it is too long.
 fn script_from_input(rt: &HostRuntime) -> io::Result<Vec<u8>>
@@ -21,11 +45,54 @@ fn script_from_input(rt: &HostRuntime) -> io::Result<Vec<u8>>
     Ok(script)
 }
 
-// Prints what became of the script on standard input.
-fn main(rt: HostRuntime) -> io::Result<()> {
-    let script = script_from_input(&rt)?;
-    match reader::read(rt.alloc(), &script) {
+// The text of a script's report.
+fn report_text(heap: Global, script: &[u8]) -> Result<Vec<u8>, Refusal>
+    ensures { MatchResult result (λ t. ReportOf script.now t.items) (λ e. NoReportOf script.now e) }
+{
+    let graph = read(heap, script)?;
+    Report::new(heap, &graph, MOST_ROUNDS)?.text(heap)
+}
+
+// Prints the report of the script on standard input.
+fn print_report(rt: &HostRuntime) -> io::Result<()> {
+    let script = script_from_input(rt)?;
+    match report_text(rt.alloc(), &script) {
+        Ok(text) => rt.stdout().write_all(&text),
+        Err(refusal) => println!(rt; "{}", RefusalLine(refusal)),
+    }
+}
+
+// Prints the points and edges of the script on standard input.
+fn print_listing(rt: &HostRuntime) -> io::Result<()> {
+    let script = script_from_input(rt)?;
+    match read(rt.alloc(), &script) {
         Ok(graph) => println!(rt; "{}", Listing(&graph)),
         Err(refusal) => println!(rt; "{}", RefusalLine(refusal)),
     }
+}
+
+// What the arguments ask for.
+fn job_asked(rt: &HostRuntime) -> anyhow::Result<Job> {
+    let mut words = env::args(rt)?.skip(1);
+    let Some(word) = words.next() else {
+        return Ok(Job::Report);
+    };
+    if words.next().is_some() {
+        return Err(anyhow!("one argument at most: try fence --help"));
+    }
+    match word.as_str() {
+        "--listing" => Ok(Job::Listing),
+        "--help" => Ok(Job::Help),
+        _ => Err(anyhow!("unknown argument: try fence --help")),
+    }
+}
+
+// Does what the arguments ask for.
+fn main(rt: HostRuntime) -> anyhow::Result<()> {
+    match job_asked(&rt)? {
+        Job::Report => print_report(&rt)?,
+        Job::Listing => print_listing(&rt)?,
+        Job::Help => println!(rt; "{HELP}")?,
+    }
+    Ok(())
 }
