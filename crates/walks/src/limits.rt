@@ -1,7 +1,7 @@
 // What sessions do at their limits.
 use crate::checks::{Checks, refused};
-use crate::known::Fault;
 use crate::told::{NO_FINDING, blank};
+use below::Fault;
 use books::{Book, Entry};
 use kinds::{Bound, Grade};
 use reader::graph::Graph;
@@ -43,7 +43,7 @@ const MARK: Entry<Bound> = Entry {
 
 // Whether nothing was written to this entry.
 fn is_untouched(finding: &Finding) -> bool {
-    Fault::from(*finding) == Fault::from(NO_FINDING)
+    *finding == NO_FINDING
 }
 
 // A session on the bounds of a graph that has run.
@@ -160,8 +160,7 @@ pub fn try_findings(heap: Global, checks: &mut Checks) -> Result<(), Refusal> {
     checks.add(session.findings(&mut long)? == FINDINGS);
     checks.add(!long.iter().take(FINDINGS).any(is_untouched));
     checks.add(long.iter().skip(FINDINGS).all(is_untouched));
-    let same = |(a, b): (&Finding, &Finding)| Fault::from(*a) == Fault::from(*b);
-    checks.add(just.iter().zip(long.iter()).all(same));
+    checks.add(just.iter().zip(long.iter()).all(|(a, b)| *a == *b));
     Ok(())
 }
 

@@ -2,16 +2,11 @@
 // What it prints is what the independent solver found and what was seen of runs; of sessions it prints the rounds.
 #![tactic(auto)]
 
-mod ascent;
-mod below;
 mod checks;
 mod dice;
 mod drafts;
 mod examples;
-mod known;
 mod limits;
-mod origins;
-mod spans;
 mod strolls;
 mod tally;
 mod told;

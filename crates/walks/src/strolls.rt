@@ -2,7 +2,7 @@
 ghost use Rattle.std.specs.Prelude.{◌≡◌, true};
 
 use crate::dice::Dice;
-use crate::known::Known;
+use below::Known;
 use language::{Action, Edge, Lookup};
 use reader::graph::Graph;
 use refusal::Refusal;

@@ -1,9 +1,8 @@
 // What the independent solver found in scripts, counted.
 ghost use Rattle.std.specs.Prelude.{◌≡◌, true, None};
 
-use crate::known::Known;
-use crate::origins::Origin;
 use crate::trial::Trial;
+use below::{Known, Origin};
 use std::fmt;
 
 // How many scripts there were, with how many points, spans, origins, table reads and faults; and the number of the first script of which sessions tell something else.

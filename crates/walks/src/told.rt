@@ -1,7 +1,5 @@
 // What sessions tell of a script.
-use crate::known::{Fault, Known, Spot};
-use crate::origins::Origin;
-use crate::spans::Span;
+use below::{Fault, Known, Origin, Span, Spot};
 use books::{Book, Entry};
 use kinds::{Bound, Grade, Kind};
 use reader::graph::Graph;

@@ -1,8 +1,7 @@
 // A script that is tried.
-use crate::below::known_from_below;
-use crate::known::{Difference, Known, spots_of};
 use crate::strolls::{Course, Seen, seen_of};
 use crate::told::{Told, known_by_sessions};
+use below::{Difference, Known, known_from_below, spots_of};
 use reader::graph::Graph;
 use refusal::Refusal;
 use std::alloc::Global;

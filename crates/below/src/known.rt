@@ -15,7 +15,7 @@ pub struct Spot {
     pub variable: usize,
 }
 
-// A table read that may fall outside.
+// A table read that may fall outside. Not `Finding`: its span is the independent solver's.
 #[derive(Clone, Copy, PartialEq)]
 pub struct Fault {
     pub point: usize,
@@ -68,11 +68,14 @@ impl From<Finding> for Fault {
 impl fmt::Display for Fault {
     fn fmt<W: fmt::Write>(&self, f: &mut fmt::Formatter<W>) -> fmt::Result {
         let Place { line, column } = self.place;
-        let Fault { span, size, .. } = *self;
-        write!(
-            f,
-            "line {line} column {column}: an index in {span} of a table of {size}"
-        )
+        let Fault {
+            point,
+            span,
+            size,
+            ..
+        } = *self;
+        write!(f, "line {line} column {column}, point {point}: ")?;
+        write!(f, "an index in {span} of a table of {size}")
     }
 }
 
