@@ -1,6 +1,6 @@
 -- The bound book of a graph: how far each variable can go at each point, edge by edge.
 -- A variable at a point has two unknowns, its upper bound U and the next one, L, its lower bound negated. Values on the right are those at the edge's start.
-use Rattle.std.specs.Prelude.{ℕ, suc, ◌+◌, ◌*◌, ◌/◌, ◌%◌, cond, List, [], ◌∷◌, map, length, ℤ, pos, neg_ℤ, ◌==◌}
+use Rattle.std.specs.Prelude.{ℕ, suc, ◌+◌, ◌*◌, ◌/◌, ◌%◌, Bool, cond, ◌&&◌, nat_lt, List, [], ◌∷◌, map, length, ℤ, pos, neg_ℤ, ◌==◌}
 use Rattle.std.specs.List.{range_with_len}
 use Rattle.kinds.specs.declared.bound.Bound.{Bound}
 use Rattle.kinds.specs.declared.bound.Bound.TheVariants.{Whole}
@@ -83,6 +83,10 @@ module _ (g : Graph) where
   -- how many variables there are
   abbrev pub variables_of : ℕ
   variables_of = length g.variables
+
+  -- whether the point p and the variable v are there
+  abbrev pub is_there : ℕ → ℕ → Bool
+  is_there p v = nat_lt p g.points && nat_lt v variables_of
 
   -- the alternatives of U of v at p, in the order of the edges to p: point 0 has the declared range
   abbrev pub uppers : ℕ → ℕ → List (Alternative Bound ℤ)

@@ -1,10 +1,10 @@
 // The bound book of a graph.
-ghost use Rattle.std.specs.Prelude.{◌≡◌, ◌<◌, false, ◌&&◌, nat_lt, MatchResult, cond};
+ghost use Rattle.std.specs.Prelude.{◌≡◌, ◌<◌, cond, Ok, Err};
 ghost use Rattle.refusal.specs.Reasons.{nowhere};
 ghost use Rattle.refusal.specs.declared.Reason.TheVariants.{NotThere};
 ghost use Rattle.books.specs.Books.{nth};
 ghost use Rattle.books.specs.Questions.{found};
-ghost use Rattle.equations.specs.Bounds.{bound_book, uppers, lowers, variables_of, upper as upper_at};
+ghost use Rattle.equations.specs.Bounds.{bound_book, uppers, lowers, variables_of, is_there, upper as upper_at};
 ghost use Rattle.reader.specs.Meaning.{meaning};
 ghost use Rattle.script_books.specs.Fitted.{bounds_well};
 
@@ -38,7 +38,7 @@ impl<'a> BoundBook<'a> {
 
     // The unknown of the upper bound of a variable at a point, if both are there. The next one is that of its lower bound, negated.
     pub fn upper_unknown(&self, point: usize, variable: usize) -> Result<usize, Refusal>
-        ensures { MatchResult result (λ u. (point < self.now.graph.now.points) × (variable < variables_of (meaning self.now.graph.now)) × (u ≡ upper_at (variables_of (meaning self.now.graph.now)) point variable)) (λ e. ((nat_lt point self.now.graph.now.points && nat_lt variable (variables_of (meaning self.now.graph.now))) ≡ false) × (e ≡ nowhere NotThere)) }
+        ensures { result ≡ cond (is_there (meaning self.now.graph.now) point variable) (Ok (upper_at (variables_of (meaning self.now.graph.now)) point variable)) (Err (nowhere NotThere)) }
     {
         Ok(2 * number_of(self.graph, point, variable)?)
     }

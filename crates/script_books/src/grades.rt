@@ -1,5 +1,5 @@
 // The grade book of a graph.
-ghost use Rattle.std.specs.Prelude.{◌≡◌, ◌<◌, false, ◌&&◌, nat_lt, MatchResult, [], ◌∷◌};
+ghost use Rattle.std.specs.Prelude.{◌≡◌, ◌<◌, cond, Ok, Err, [], ◌∷◌};
 ghost use Rattle.kinds.specs.declared.grade.Grade.TheVariants.{Written};
 ghost use Rattle.refusal.specs.Reasons.{nowhere};
 ghost use Rattle.refusal.specs.declared.Reason.TheVariants.{NotThere};
@@ -7,7 +7,7 @@ ghost use Rattle.books.specs.Books.{nth};
 ghost use Rattle.books.specs.Questions.{found};
 ghost use Rattle.books.specs.Forms.{constant};
 ghost use Rattle.graphs.specs.Fitting.{ActionFits};
-ghost use Rattle.equations.specs.Bounds.{variables_of};
+ghost use Rattle.equations.specs.Bounds.{variables_of, is_there};
 ghost use Rattle.equations.specs.Grades.{grade_book, grade_at, grades_at, grade_of as grade_for, grade_from, grade_copied};
 ghost use Rattle.reader.specs.Meaning.{meaning};
 ghost use Rattle.script_books.specs.Fitted.{grades_well};
@@ -43,7 +43,7 @@ impl<'a> GradeBook<'a> {
 
     // The unknown of the grade of a variable at a point, if both are there.
     pub fn grade_unknown(&self, point: usize, variable: usize) -> Result<usize, Refusal>
-        ensures { MatchResult result (λ u. (point < self.now.graph.now.points) × (variable < variables_of (meaning self.now.graph.now)) × (u ≡ grade_at (variables_of (meaning self.now.graph.now)) point variable)) (λ e. ((nat_lt point self.now.graph.now.points && nat_lt variable (variables_of (meaning self.now.graph.now))) ≡ false) × (e ≡ nowhere NotThere)) }
+        ensures { result ≡ cond (is_there (meaning self.now.graph.now) point variable) (Ok (grade_at (variables_of (meaning self.now.graph.now)) point variable)) (Err (nowhere NotThere)) }
     {
         number_of(self.graph, point, variable)
     }

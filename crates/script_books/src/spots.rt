@@ -1,11 +1,11 @@
 // Variables at points, and the unknowns and edges that belong to them.
-ghost use Rattle.std.specs.Prelude.{◌≡◌, ◌+◌, ◌*◌, ◌/◌, ◌%◌, ◌<◌, ◌≤◌, false, ◌&&◌, nat_lt, IfOk, MatchResult};
+ghost use Rattle.std.specs.Prelude.{◌≡◌, ◌+◌, ◌*◌, ◌/◌, ◌%◌, ◌<◌, ◌≤◌, cond, Ok, Err, IfOk, MatchResult};
 ghost use Rattle.refusal.specs.Reasons.{nowhere};
 ghost use Rattle.refusal.specs.declared.Reason.TheVariants.{NotThere};
 ghost use Rattle.books.specs.Books.{nth};
 ghost use Rattle.books.specs.Questions.{found};
 ghost use Rattle.graphs.specs.Fitting.{EdgeFits, incoming};
-ghost use Rattle.equations.specs.Bounds.{variables_of, upper as upper_at, lower as lower_at};
+ghost use Rattle.equations.specs.Bounds.{variables_of, is_there, upper as upper_at, lower as lower_at};
 ghost use Rattle.equations.specs.Grades.{grade_at};
 ghost use Rattle.reader.specs.Meaning.{meaning};
 
@@ -37,7 +37,8 @@ pub(crate) fn spot_of(graph: &Graph, number: usize) -> Result<Spot, Refusal>
 
 // The number of a variable at a point, if both are there.
 pub(crate) fn number_of(graph: &Graph, point: usize, variable: usize) -> Result<usize, Refusal>
-    ensures { MatchResult result (λ u. (point < graph.now.points) × (variable < variables_of (meaning graph.now)) × (u ≡ grade_at (variables_of (meaning graph.now)) point variable) × (u < 768)) (λ e. ((nat_lt point graph.now.points && nat_lt variable (variables_of (meaning graph.now))) ≡ false) × (e ≡ nowhere NotThere)) }
+    ensures value { result ≡ cond (is_there (meaning graph.now) point variable) (Ok (grade_at (variables_of (meaning graph.now)) point variable)) (Err (nowhere NotThere)) }
+    ensures few { IfOk result (λ u. u < 768) }
 {
     let variables = graph.variables().len();
     if point >= graph.points() || variable >= variables {

@@ -6,8 +6,8 @@ use Rattle.refusal.specs.Reasons.{nowhere}
 use Rattle.refusal.specs.declared.Refusal.{Refusal}
 use Rattle.refusal.specs.declared.Reason.TheVariants.{NotThere, NotSettled}
 use Rattle.language.specs.Graphs.{Graph}
-use Rattle.equations.specs.Bounds.{variables_of}
-use Rattle.soundness.specs.Questions.{Told, is_there}
+use Rattle.equations.specs.Bounds.{variables_of, is_there}
+use Rattle.soundness.specs.Questions.{Told}
 use Rattle.soundness.specs.Questions.Told.{turned_back}
 use Rattle.sessions.specs.Answers.{told_by}
 
@@ -40,3 +40,11 @@ below_of g p v e =
     let a = q.0 in
     let b = q.1 in
     (grind (arith, nat_tests), grind (arith, nat_tests))
+
+-- an unknown that is found is that of a point and a variable that are there
+pub unknown_of : (g : Graph) (p v x u : ℕ) → ◌≡◌ {A = Result ℕ Refusal} (Ok u) (cond (is_there g p v) (Ok x) (Err (nowhere NotThere))) → (p < g.points) × (v < variables_of g) × (u ≡ x)
+unknown_of g p v x u e = go (is_there g p v) refl e
+  where
+    go : (b : Bool) → is_there g p v ≡ b → ◌≡◌ {A = Result ℕ Refusal} (Ok u) (cond b (Ok x) (Err (nowhere NotThere))) → (p < g.points) × (v < variables_of g) × (u ≡ x)
+    go true t h = let q = below_of g p v t in (q.0, q.1, cc)
+    go false t h = absurd (cc)

@@ -1,9 +1,11 @@
 -- What a session on grades answers when it is asked for one.
-use Rattle.std.proofs.Common.{◌≡◌, ℕ, ◌<◌, Bool, true, List, length, Ok, Err, Result, sym, ap, ◌∙◌, subst, arith}
+use Rattle.std.proofs.Common.{◌≡◌, ℕ, Bool, true, cond, List, length, Ok, Err, Result, sym, ap, ◌∙◌, subst, arith}
 use Rattle.kinds.specs.Values.{grades}
 use Rattle.kinds.specs.Laws.{grades_laws}
 use Rattle.kinds.specs.declared.grade.Grade.{Grade}
+use Rattle.refusal.specs.Reasons.{nowhere}
 use Rattle.refusal.specs.declared.Refusal.{Refusal}
+use Rattle.refusal.specs.declared.Reason.TheVariants.{NotThere}
 use Rattle.books.specs.Books.{at}
 use Rattle.books.specs.Entries.{values}
 use Rattle.books.specs.declared.Entry.{Entry}
@@ -12,10 +14,10 @@ use Rattle.strategy.specs.Lives.Answer.{told}
 use Rattle.strategy.specs.Promises.{GoesOn}
 use Rattle.strategy.specs.Calls.{state, Shows}
 use Rattle.strategy.proofs.Asking.{question_on}
-use Rattle.equations.specs.Bounds.{variables_of}
+use Rattle.equations.specs.Bounds.{variables_of, is_there}
 use Rattle.equations.specs.Grades.{grade_at, grade_book}
 use Rattle.equations.proofs.Places.{grade_book_long, grade_below}
-use Rattle.soundness.specs.Questions.{Told, ask_grades, is_settled, is_there}
+use Rattle.soundness.specs.Questions.{Told, ask_grades, is_settled}
 use Rattle.soundness.specs.Questions.Question.{grade_of}
 use Rattle.soundness.specs.Questions.Told.{graded}
 use Rattle.reader.specs.Meaning.{meaning}
@@ -24,7 +26,7 @@ use Rattle.script_books.specs.Fitted.{grades_well}
 use Rattle.sessions.specs.Sessions.{Lived}
 use Rattle.sessions.specs.Answers.{asked_grade, told_by}
 use Rattle.sessions.proofs.Standing.{long_of}
-use Rattle.sessions.proofs.Asked.{told_asked, asked_is, there_of}
+use Rattle.sessions.proofs.Asked.{told_asked, asked_is, there_of, unknown_of}
 
 module _ (g : Graph) (es : List (Entry Grade)) (n : ℕ) (t : ∥ Lived grades (grade_book (meaning g)) (state es n) ∥₁) (p v : ℕ) where
   abbrev there : Bool
@@ -40,10 +42,13 @@ module _ (g : Graph) (es : List (Entry Grade)) (n : ℕ) (t : ∥ Lived grades (
   long = long_of grades grades_laws (grade_book (meaning g)) (grades_well g) es n t
 
   -- the value of its unknown, which is there
-  pub answered : (u : ℕ) → (p < g.points) × (v < variables_of (meaning g)) × (u ≡ grade_at (variables_of (meaning g)) p v) → settled ≡ true →
+  pub answered : (u : ℕ) → ◌≡◌ {A = Result ℕ Refusal} (Ok u) (cond there (Ok (grade_at (variables_of (meaning g)) p v)) (Err (nowhere NotThere))) → settled ≡ true →
       (r : Result Grade Refusal) → Shows grades es u r → r ≡ asked_grade (meaning g) (values es) p v
-  answered u h s (Ok x) e = ap Ok (e.1 ∙ ap (at grades (values es)) h.2) ∙ sym (asked_is there settled shows (there_of (meaning g) p v h.0 h.1) s)
-  answered u h s (Err d) e =
+  answered u f s (Ok x) e =
+      let h = unknown_of (meaning g) p v (grade_at (variables_of (meaning g)) p v) u f in
+      ap Ok (e.1 ∙ ap (at grades (values es)) h.2) ∙ sym (asked_is there settled shows (there_of (meaning g) p v h.0 h.1) s)
+  answered u f s (Err d) e =
+      let h = unknown_of (meaning g) p v (grade_at (variables_of (meaning g)) p v) u f in
       let a = grade_below (meaning g) p v h.0 h.1 in
       let b = grade_book_long (meaning g) in
       let c = long in

@@ -1,9 +1,11 @@
 -- What a session on bounds answers when it is asked for an interval.
-use Rattle.std.proofs.Common.{◌≡◌, ℕ, ◌+◌, ◌<◌, Bool, true, List, length, ℤ, Ok, Option, Result, IfOk, IfSome, sym, ap, ◌∙◌, subst, ⊎_elim, arith}
+use Rattle.std.proofs.Common.{◌≡◌, ℕ, ◌+◌, ◌<◌, Bool, true, cond, List, length, ℤ, Ok, Err, Option, Result, IfOk, IfSome, sym, ap, ◌∙◌, subst, ⊎_elim, arith}
 use Rattle.kinds.specs.Values.{bounds, Near}
 use Rattle.kinds.specs.Laws.{bounds_laws}
 use Rattle.kinds.specs.declared.bound.Bound.{Bound}
+use Rattle.refusal.specs.Reasons.{nowhere}
 use Rattle.refusal.specs.declared.Refusal.{Refusal}
+use Rattle.refusal.specs.declared.Reason.TheVariants.{NotThere}
 use Rattle.books.specs.Books.{at}
 use Rattle.books.specs.Entries.{values}
 use Rattle.books.specs.declared.Entry.{Entry}
@@ -12,11 +14,11 @@ use Rattle.strategy.specs.Lives.Answer.{told}
 use Rattle.strategy.specs.Promises.{GoesOn}
 use Rattle.strategy.specs.Calls.{state}
 use Rattle.strategy.proofs.Asking.{question_on}
-use Rattle.equations.specs.Bounds.{upper, lower, variables_of, bound_book}
+use Rattle.equations.specs.Bounds.{upper, variables_of, is_there, bound_book}
 use Rattle.equations.proofs.Places.{book_long, upper_below, lower_below}
 use Rattle.soundness.specs.Runs.{Run, of}
 use Rattle.soundness.specs.Intervals.{ends, interval, LiesIn, Stands}
-use Rattle.soundness.specs.Questions.{Told, ask, is_settled, is_there}
+use Rattle.soundness.specs.Questions.{Told, ask, is_settled}
 use Rattle.soundness.specs.Questions.Question.{interval_of}
 use Rattle.soundness.specs.Questions.Told.{shown}
 use Rattle.soundness.specs.Kept.{Reached, Unreached}
@@ -28,7 +30,7 @@ use Rattle.script_books.specs.Fitted.{graph_fits, bounds_well}
 use Rattle.sessions.specs.Sessions.{Lived}
 use Rattle.sessions.specs.Answers.{asked_interval, told_by}
 use Rattle.sessions.proofs.Standing.{long_of, holds_of, least_of, near_of}
-use Rattle.sessions.proofs.Asked.{told_asked, asked_is, if_asked, there_of, below_of}
+use Rattle.sessions.proofs.Asked.{told_asked, asked_is, if_asked, there_of, below_of, unknown_of}
 
 module _ (g : Graph) (es : List (Entry Bound)) (n : ℕ) (t : ∥ Lived bounds (bound_book (meaning g)) (state es n) ∥₁) (p v : ℕ) where
   abbrev there : Bool
@@ -43,22 +45,24 @@ module _ (g : Graph) (es : List (Entry Bound)) (n : ℕ) (t : ∥ Lived bounds (
   long : length es ≡ length (bound_book (meaning g))
   long = long_of bounds bounds_laws (bound_book (meaning g)) (bounds_well g) es n t
 
-  -- both unknowns of a variable at a point are there
-  module _ (h : p < g.points) (k : v < variables_of (meaning g)) where
-    pub upper_in : upper (variables_of (meaning g)) p v < length es
-    upper_in = let a = upper_below (meaning g) p v h k in let b = book_long (meaning g) in let c = long in omega arith
+  -- the unknown that is found, and the next one, are in the list
+  module _ (u : ℕ) (e : ◌≡◌ {A = Result ℕ Refusal} (Ok u) (cond there (Ok (upper (variables_of (meaning g)) p v)) (Err (nowhere NotThere)))) where
+    found : (p < g.points) × (v < variables_of (meaning g)) × (u ≡ upper (variables_of (meaning g)) p v)
+    found = unknown_of (meaning g) p v (upper (variables_of (meaning g)) p v) u e
 
-    pub lower_in : lower (variables_of (meaning g)) p v < length es
-    lower_in = let a = lower_below (meaning g) p v h k in let b = book_long (meaning g) in let c = long in omega arith
+    pub upper_in : u < length es
+    upper_in = let a = upper_below (meaning g) p v found.0 found.1 in let b = book_long (meaning g) in let c = long in let d = found.2 in omega arith
 
-  -- the ends by the two values
-  pub answered : (u : ℕ) → (p < g.points) × (v < variables_of (meaning g)) × (u ≡ upper (variables_of (meaning g)) p v) → settled ≡ true →
-      (a b : Bound) → a ≡ at bounds (values es) u → b ≡ at bounds (values es) (u + 1) → (r : Option (Bound × Bound)) → (Near b → r ≡ ends a b) → Ok r ≡ asked_interval (meaning g) (values es) p v
-  answered u h s a b ea eb r f = ap Ok (f (subst Near (sym eb) (near_of (bound_book (meaning g)) (bounds_well g) es n t (u + 1))) ∙ ends_are) ∙ sym (asked_is there settled shows (there_of (meaning g) p v h.0 h.1) s)
-    where
-      ends_are : ends a b ≡ shows
-      ends_are = ap (λ (z : Bound). ends z b) (ea ∙ ap (at bounds (values es)) h.2) ∙
-          ap (ends (at bounds (values es) (upper (variables_of (meaning g)) p v))) (eb ∙ ap (at bounds (values es)) (let e = h.2 in omega arith))
+    pub lower_in : u + 1 < length es
+    lower_in = let a = lower_below (meaning g) p v found.0 found.1 in let b = book_long (meaning g) in let c = long in let d = found.2 in omega arith
+
+    -- the ends by the two values
+    pub answered : settled ≡ true → (a b : Bound) → a ≡ at bounds (values es) u → b ≡ at bounds (values es) (u + 1) → (r : Option (Bound × Bound)) → (Near b → r ≡ ends a b) → Ok r ≡ asked_interval (meaning g) (values es) p v
+    answered s a b ea eb r f = ap Ok (f (subst Near (sym eb) (near_of (bound_book (meaning g)) (bounds_well g) es n t (u + 1))) ∙ ends_are) ∙ sym (asked_is there settled shows (there_of (meaning g) p v found.0 found.1) s)
+      where
+        ends_are : ends a b ≡ shows
+        ends_are = ap (λ (z : Bound). ends z b) (ea ∙ ap (at bounds (values es)) found.2) ∙
+            ap (ends (at bounds (values es) (upper (variables_of (meaning g)) p v))) (eb ∙ ap (at bounds (values es)) (let d = found.2 in omega arith))
 
   module _ (r : Result (Option (Bound × Bound)) Refusal) (e : r ≡ asked_interval (meaning g) (values es) p v) where
     -- every value of a run lies inside

@@ -9,11 +9,11 @@ use Rattle.refusal.specs.declared.Reason.TheVariants.{NotThere, NotSettled, List
 use Rattle.books.specs.Books.{at}
 use Rattle.lists.specs.Fronts.{Front}
 use Rattle.language.specs.Graphs.{Graph}
-use Rattle.equations.specs.Bounds.{bound_book, variables_of}
+use Rattle.equations.specs.Bounds.{bound_book, variables_of, is_there}
 use Rattle.equations.specs.Grades.{grade_at, grade_book}
 use Rattle.soundness.specs.Intervals.{interval}
 use Rattle.soundness.specs.Findings.{findings}
-use Rattle.soundness.specs.Questions.{Told, is_settled, is_there}
+use Rattle.soundness.specs.Questions.{Told, is_settled}
 use Rattle.soundness.specs.Questions.Told.{filled, turned_back}
 use Rattle.soundness.specs.declared.Finding.{Finding}
 

@@ -1,10 +1,11 @@
 // Calls of a session on a script's bounds as values, and any list of them made in a row.
-ghost use Rattle.std.specs.Prelude.{◌≡◌, length, MatchResult};
+ghost use Rattle.std.specs.Prelude.{◌≡◌, length, All, IfOk, MatchResult};
 ghost use Rattle.kinds.specs.Values.{bounds};
 ghost use Rattle.refusal.specs.Reasons.{no_memory};
 ghost use Rattle.strategy.specs.Lives.{begun};
 ghost use Rattle.strategy.specs.Lives.Call.{question};
 ghost use Rattle.strategy.specs.Promises.{GoesOn, LivesStand};
+ghost use Rattle.solver.specs.Answers.{IsUnplaced};
 ghost use Rattle.solver.specs.Analyses.{state_of};
 ghost use Rattle.graphs.specs.Fitting.{Fits};
 ghost use Rattle.equations.specs.Bounds.{bound_book};
@@ -57,7 +58,8 @@ const BLANK: Finding = Finding {
 impl Session<'_, Bound, BoundBook<'_>> {
     // The findings in a list of that length. It needs no more entries than there are table reads.
     fn list_findings(&self, heap: Global, length: usize) -> Answered
-        ensures { MatchResult result (λ r. GoesOn bounds (bound_book (meaning self.now.book.graph.now)) (ask (meaning self.now.book.graph.now)) (question (findings_into length)) (script_answer (Findings length) r) (state_of self.now.analysis) (state_of self.now.analysis)) (λ e. e ≡ no_memory) }
+        ensures life { MatchResult result (λ r. GoesOn bounds (bound_book (meaning self.now.book.graph.now)) (ask (meaning self.now.book.graph.now)) (question (findings_into length)) (script_answer (Findings length) r) (state_of self.now.analysis) (state_of self.now.analysis)) (λ e. e ≡ no_memory) }
+        ensures unplaced { IfOk result IsUnplaced }
     {
         let entries = length.min(self.book.graph().lookups().len());
         let mut list = vec![in heap; BLANK; entries]?;
@@ -73,6 +75,7 @@ impl Session<'_, Bound, BoundBook<'_>> {
     // Makes one call.
     fn answer(&mut self, heap: Global, call: ScriptCall) -> Answered
         ensures life { MatchResult result (λ r. GoesOn bounds (bound_book (meaning self.old.book.graph.now)) (ask (meaning self.old.book.graph.now)) (script_call call) (script_answer call r) (state_of self.old.analysis) (state_of self.new.analysis)) (λ e. e ≡ no_memory) }
+        ensures unplaced { IfOk result IsUnplaced }
         ensures same_book { self.new.book ≡ self.old.book }
     {
         match call {
@@ -95,7 +98,7 @@ fn make_all(
     session: &mut Session<'_, Bound, BoundBook<'_>>,
     calls: &[ScriptCall],
 ) -> Result<Vec<Result<ScriptAnswer, Refusal>>, Refusal>
-    ensures { MatchResult result (λ answers. (length answers.items ≡ length calls.now) × (state_of session.old.analysis ≡ begun bounds (bound_book (meaning session.old.book.graph.now)) → LivedWhole (meaning session.old.book.graph.now) (script_history calls.now answers.items))) (λ e. e ≡ no_memory) }
+    ensures { MatchResult result (λ answers. (length answers.items ≡ length calls.now) × All IsUnplaced answers.items × (state_of session.old.analysis ≡ begun bounds (bound_book (meaning session.old.book.graph.now)) → LivedWhole (meaning session.old.book.graph.now) (script_history calls.now answers.items))) (λ e. e ≡ no_memory) }
 {
     let mut answers = Vec::new(heap);
     for call in calls {
@@ -111,7 +114,7 @@ pub fn make_script_calls(
     graph: &Graph,
     calls: &[ScriptCall],
 ) -> Result<Vec<Result<ScriptAnswer, Refusal>>, Refusal>
-    ensures whole { MatchResult result (λ answers. (length answers.items ≡ length calls.now) × LivedWhole (meaning graph.now) (script_history calls.now answers.items)) (λ e. e ≡ no_memory) }
+    ensures whole { MatchResult result (λ answers. (length answers.items ≡ length calls.now) × All IsUnplaced answers.items × LivedWhole (meaning graph.now) (script_history calls.now answers.items)) (λ e. e ≡ no_memory) }
     ensures law { LivesStand bounds Question Told }
     ensures runs { RunsStand (meaning graph.now) }
     ensures fits { Fits (meaning graph.now) }

@@ -1,5 +1,5 @@
 // Which table reads may fall outside.
-ghost use Rattle.std.specs.Prelude.{◌≡◌, true, List, ℤ, pos, ◌-ℤ◌, ◌++◌, length, take, drop, Contains, OnOk, IsOkAnd, ◌≤◌, MatchResult};
+ghost use Rattle.std.specs.Prelude.{◌≡◌, true, List, ℤ, pos, ◌-ℤ◌, length, OnOk, IsOkAnd, ◌≤◌, MatchResult};
 ghost use Rattle.kinds.specs.Values.{bounds, under};
 ghost use Rattle.kinds.specs.declared.bound.Bound.TheVariants.{Whole};
 ghost use Rattle.books.specs.Entries.{values};
@@ -13,7 +13,7 @@ ghost use Rattle.equations.specs.Bounds.{bound_book};
 ghost use Rattle.soundness.specs.Runs.{OutsideRead};
 ghost use Rattle.soundness.specs.Findings.{found_of, findings as findings_of, FindingOf};
 ghost use Rattle.soundness.specs.Kept.{Listed};
-ghost use Rattle.soundness.specs.Questions.{ask, is_settled};
+ghost use Rattle.soundness.specs.Questions.{ask};
 ghost use Rattle.soundness.specs.Questions.Question.{findings_into};
 ghost use Rattle.soundness.specs.declared.Finding.{Finding};
 ghost use Rattle.reader.specs.Meaning.{meaning};

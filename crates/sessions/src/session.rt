@@ -10,7 +10,7 @@ ghost use Rattle.strategy.specs.Lives.Answer.{done, value as shown, choice as ch
 ghost use Rattle.strategy.specs.Solving.{Settled};
 ghost use Rattle.strategy.specs.Promises.{Least};
 ghost use Rattle.strategy.specs.Calls.{Shows, ShowsChoice, call_with, answer_with};
-ghost use Rattle.solver.specs.Answers.{progressed, answered, call_of, answer_of};
+ghost use Rattle.solver.specs.Answers.{IsUnplaced, progressed, answered, call_of, answer_of};
 ghost use Rattle.solver.specs.Analyses.{state_of};
 ghost use Rattle.soundness.specs.Questions.{is_settled};
 ghost use Rattle.sessions.specs.Sessions.{Lived, Opens, CarriesOn};
@@ -127,6 +127,7 @@ impl<'a, K: Kind, B: Book<K> + Copy> Session<'a, K, B> {
     // Makes one of the calls of every analysis.
     pub(crate) fn make(&mut self, call: Call) -> Result<Answer<K>, Refusal>
         ensures life { CarriesOn K.Kind.ops (B.Book.meaning self.old.book) (call_with (call_of call)) (answer_with (answer_of result)) (state_of self.old.analysis) (state_of self.new.analysis) }
+        ensures unplaced { IsUnplaced result }
         ensures same_book { self.new.book ≡ self.old.book }
         ensures same_list { self.new.analysis.list.ghost_name ≡ self.old.analysis.list.ghost_name }
     {

@@ -1,5 +1,5 @@
 -- Calls and answers of an analysis, as lives have them.
-use Rattle.std.specs.Prelude.{List, [], ◌∷◌, reverse, Ok, Err, Result}
+use Rattle.std.specs.Prelude.{◌≡◌, List, [], ◌∷◌, reverse, None, Ok, Err, Result, IfErr}
 use Rattle.refusal.specs.Reasons.{number_of}
 use Rattle.refusal.specs.declared.Refusal.{Refusal}
 use Rattle.strategy.specs.Lives as lives
@@ -19,6 +19,10 @@ progressed p = made p.rounds p.settled
 abbrev pub answered : {V X : Type 0} → (X → lives.Answer V ⊥) → Result X Refusal → lives.Answer V ⊥
 answered f (Ok x) = f x
 answered f (Err e) = refused (number_of e.reason)
+
+-- an answer; or a refusal that has no place
+abbrev pub IsUnplaced : {X : Type 0} → Result X Refusal → Type 0
+IsUnplaced r = IfErr r (λ e. e.place ≡ None)
 
 -- a call, and an answer, of a list of calls
 abbrev pub call_of : Call → lives.Call ⊥

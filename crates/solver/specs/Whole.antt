@@ -1,5 +1,5 @@
 -- What making a list of calls leaves: a whole life, with the promises at set-up and after every call.
-use Rattle.std.specs.Prelude.{◌≡◌, ℕ, ◌<◌, ◌≤◌, ◌⊎◌, List, length, take, drop, Option, Result}
+use Rattle.std.specs.Prelude.{◌≡◌, ℕ, ◌<◌, ◌≤◌, ◌⊎◌, List, length, take, drop, All, Option, Result}
 use Rattle.kinds.specs.Kinds.{Ops}
 use Rattle.refusal.specs.Reasons.{nowhere}
 use Rattle.refusal.specs.declared.Refusal.{Refusal}
@@ -9,7 +9,7 @@ use Rattle.books.specs.declared.Entry.{Entry}
 use Rattle.strategy.specs.Lives.{State, Event, Life}
 use Rattle.strategy.specs.Promises.{Always}
 use Rattle.strategy.specs.Calls.{state, unasked}
-use Rattle.solver.specs.Answers.{history}
+use Rattle.solver.specs.Answers.{IsUnplaced, history}
 use Rattle.solver.specs.declared.calls.Call.{Call}
 use Rattle.solver.specs.declared.calls.Answer.{Answer}
 
@@ -19,13 +19,14 @@ module _ {V W : Type 0} (o : Ops V W) (m : List (List (Alternative V W))) where
     pub past : List (List (Option ℕ))
     pub life : Life o m unasked h past s
 
-  -- the calls were made from set-up on, in the list es, and answered in the front of bs: the life that they make ends in the front of es' with n rounds shown; what lies behind stays
+  -- the calls were made from set-up on, in the list es, and answered in the front of bs: the life that they make ends in the front of es' with n rounds shown; no refusal among the answers has a place; what lies behind stays
   pub record LivedThrough (calls : List Call) (es : List (Entry V)) (bs : List (Result (Answer V) Refusal)) (n : ℕ) (es' : List (Entry V)) (bs' : List (Result (Answer V) Refusal)) : Type 0 where
     pub room : length m ≤ length es
     pub answers : length calls ≤ length bs
     pub past : List (List (Option ℕ))
     pub life : Life o m unasked (history calls (take (length calls) bs')) past (state (take (length m) es') n)
     pub always : Always o m unasked life
+    pub unplaced : All IsUnplaced (take (length calls) bs')
     pub behind : drop (length m) es' ≡ drop (length m) es
     pub behind_answers : drop (length calls) bs' ≡ drop (length calls) bs
 

@@ -1,8 +1,8 @@
 // Calls of an analysis as values, and any list of them made in a row.
-ghost use Rattle.std.specs.Prelude.{◌≡◌, ◌≤◌, length, take, drop, MatchResult};
+ghost use Rattle.std.specs.Prelude.{◌≡◌, ◌≤◌, length, take, drop, All, MatchResult};
 ghost use Rattle.strategy.specs.Promises.{LivesStand};
 ghost use Rattle.strategy.specs.Calls.{state, Prolongs};
-ghost use Rattle.solver.specs.Answers.{call_of, answer_of, history};
+ghost use Rattle.solver.specs.Answers.{IsUnplaced, call_of, answer_of, history};
 ghost use Rattle.solver.specs.Analyses.{state_of};
 ghost use Rattle.solver.specs.Whole.{LeadsOn, LivedThrough, TurnedBack};
 
@@ -38,6 +38,7 @@ impl<'a, K: Kind> Analysis<'a, K> {
     fn make<B: Book<K>>(&mut self, book: &B, call: Call) -> Result<Answer<K>, Refusal>
         ensures life { Prolongs K.Kind.ops (B.Book.meaning book.now) (call_of call) (answer_of result) (state_of self.old) (state_of self.new) }
         ensures same_list { self.new.list.ghost_name ≡ self.old.list.ghost_name }
+        ensures unplaced { IsUnplaced result }
     {
         match call {
             Call::Round => Ok(Answer::Made(self.round(book))),
@@ -62,6 +63,7 @@ fn make_all<K: Kind, B: Book<K>>(
 ) -> u16
     requires { length calls.now ≤ length answers.old }
     ensures life { length list.old ≡ length (B.Book.meaning book.now) → LeadsOn K.Kind.ops (B.Book.meaning book.now) (history calls.now (take (length calls.now) answers.new)) (state list.new result) }
+    ensures unplaced { All IsUnplaced (take (length calls.now) answers.new) }
     ensures behind { drop (length calls.now) answers.new ≡ drop (length calls.now) answers.old }
 {
     let mut analysis = Analysis::begin(list);

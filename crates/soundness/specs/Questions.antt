@@ -1,5 +1,5 @@
 -- The questions of a script's analyses, besides those of every analysis. They change nothing.
-use Rattle.std.specs.Prelude.{ℕ, zero, suc, Bool, true, cond, ◌&&◌, List, length, Option, nat_le, nat_lt}
+use Rattle.std.specs.Prelude.{ℕ, zero, suc, Bool, true, cond, ◌&&◌, List, length, Option, nat_le}
 use Rattle.kinds.specs.Kinds.{Ops}
 use Rattle.kinds.specs.Values.{bounds, grades}
 use Rattle.kinds.specs.declared.bound.Bound.{Bound}
@@ -8,7 +8,7 @@ use Rattle.books.specs.Books.{at, right}
 use Rattle.books.specs.declared.Alternative.{Alternative}
 use Rattle.strategy.specs.Lives.{State}
 use Rattle.language.specs.Graphs.{Graph}
-use Rattle.equations.specs.Bounds.{bound_book, variables_of}
+use Rattle.equations.specs.Bounds.{bound_book, variables_of, is_there}
 use Rattle.equations.specs.Grades.{grade_at, grade_book}
 use Rattle.soundness.specs.Intervals.{interval}
 use Rattle.soundness.specs.Findings.{findings}
@@ -35,10 +35,6 @@ pub data Told : Type 0 where
   graded : Grade → Told
   filled : List Finding → Told
   turned_back : ℕ → Told
-
--- whether the point and the variable are there
-abbrev pub is_there : Graph → ℕ → ℕ → Bool
-is_there g p v = nat_lt p g.points && nat_lt v (variables_of g)
 
 -- What bounds answer. 30: the point or the variable is not there; 31: not settled; 33: the list is shorter than the findings. There are no grades to ask for.
 abbrev pub ask : Graph → State Bound → Question → Told

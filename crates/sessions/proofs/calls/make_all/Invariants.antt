@@ -1,6 +1,7 @@
-use Rattle.std.proofs.Common.{◌≡◌, length, take}
+use Rattle.std.proofs.Common.{◌≡◌, length, take, All}
 use Rattle.kinds.specs.Values.{bounds}
 use Rattle.strategy.specs.Lives.{begun}
+use Rattle.solver.specs.Answers.{IsUnplaced}
 use Rattle.solver.specs.Analyses.{state_of}
 use Rattle.equations.specs.Bounds.{bound_book}
 use Rattle.reader.specs.Meaning.{meaning}
@@ -12,6 +13,7 @@ abbrev pub invariant-loop-call : goal.invariant-loop-call
 invariant-loop-call l = record {
   same_book : l.session.book ≡ l.fn.session.book;
   long : length l.answers.items ≡ l.call-index;
+  unplaced : All IsUnplaced l.answers.items;
   life : state_of l.fn.session.analysis ≡ begun bounds (bound_book (meaning l.fn.session.book.graph.now)) →
       LeadsOn l.fn.session.book.graph.now (script_history (take l.call-index l.calls) l.answers.items) (state_of l.session.analysis);
 }

@@ -31,6 +31,7 @@ returns g c =
         past = q.past;
         life = life;
         always = always o m unasked g.met.K.Kind.laws (g.met.B.Book.well c.args.book.now) life;
+        unplaced = c.make_all.ensures.unplaced;
         behind = drop_at es' _ (length m) long' ∙ ap (λ (k : ℕ). drop k es) same;
         behind_answers = c.make_all.ensures.behind;
       };

@@ -12,7 +12,7 @@ returns-then-not-self-clause-life c =
 
 pub returns-in_err-value-clause-answer : goal.returns-in_err-value-clause-answer
 returns-in_err-value-clause-answer c =
-    let h = upper_in c.args.self.now.book.graph.now c.args.self.now.analysis.list.now c.args.self.now.analysis.rounds c.args.self.now.lived c.args.point c.args.variable c.in_ok-upper.ensures.0 c.in_ok-upper.ensures.1 in
+    let h = upper_in c.args.self.now.book.graph.now c.args.self.now.analysis.list.now c.args.self.now.analysis.rounds c.args.self.now.lived c.args.point c.args.variable c.in_ok-upper.upper c.in_ok-upper.ensures in
     absurd (omega (arith, c.in_err-value.ensures.answer))
 
 pub returns-in_err-value-clause-life : goal.returns-in_err-value-clause-life
@@ -21,7 +21,7 @@ returns-in_err-value-clause-life c =
 
 pub returns-in_err-value-2-clause-answer : goal.returns-in_err-value-2-clause-answer
 returns-in_err-value-2-clause-answer c =
-    let h = lower_in c.args.self.now.book.graph.now c.args.self.now.analysis.list.now c.args.self.now.analysis.rounds c.args.self.now.lived c.args.point c.args.variable c.in_ok-upper.ensures.0 c.in_ok-upper.ensures.1 in
+    let h = lower_in c.args.self.now.book.graph.now c.args.self.now.analysis.list.now c.args.self.now.analysis.rounds c.args.self.now.lived c.args.point c.args.variable c.in_ok-upper.upper c.in_ok-upper.ensures in
     absurd (omega (arith, c.in_err-value-2.ensures.answer))
 
 pub returns-in_err-value-2-clause-life : goal.returns-in_err-value-2-clause-life
