@@ -1,9 +1,11 @@
 pub mod Edges
 pub mod Sound
+pub mod Sources
 pub mod Settling
 pub mod Listing
 pub mod Sizes
 pub mod Meeting
 pub mod Passing
+pub mod Outside
 pub mod Pairs
 pub mod Whole

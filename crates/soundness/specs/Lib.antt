@@ -3,3 +3,4 @@ pub mod Intervals
 pub mod Findings
 pub mod Questions
 pub mod Kept
+pub mod Sources
