@@ -6,3 +6,14 @@ pub mod Fields
 pub mod Reading
 pub mod Places
 pub mod Scripts
+pub mod Grading
+pub mod Rows
+pub mod Values
+pub mod Results
+pub mod Standing
+pub mod NameLengths
+pub mod ReadCount
+pub mod Widths
+pub mod TableSizes
+pub mod ValueSizes
+pub mod Room

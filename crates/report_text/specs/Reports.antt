@@ -1,5 +1,5 @@
 -- The report of a script.
-use Rattle.std.specs.Prelude.{ℕ, List, [], ◌++◌, map, length, Some, None, Option, flat_map, slice_index_or}
+use Rattle.std.specs.Prelude.{ℕ, List, map, Some, None, Option, flat_map, slice_index_or}
 use Rattle.std.specs.List.{range_with_len}
 use Rattle.kinds.specs.Values.{grades}
 use Rattle.kinds.specs.declared.bound.Bound.{Bound}
@@ -14,9 +14,22 @@ use Rattle.soundness.specs.Findings.{findings}
 use Rattle.soundness.specs.declared.Finding.{Finding}
 use Rattle.report_text.specs.Texts.{Reach, Row, Found, Report}
 
+-- what is known of a variable, by its interval and its grade
+abbrev pub known : Option (Bound × Bound) → Grade → Option Reach
+known None r = None
+known (Some i) r = Some (record { lowest = i.0; highest = i.1; grade = r })
+
+-- a row, by the point, the name, the interval and the grade
+abbrev pub row : ℕ → List ℕ → Option (Bound × Bound) → Grade → Row
+row p n i r = record { point = p; name = n; reach = known i r }
+
+-- what is told of a finding, with the name and the grade of its index
+abbrev pub found : Finding → List ℕ → Grade → Found
+found f n r = record { line = f.place.line; column = f.place.column; name = n; reach = record { lowest = f.lowest; highest = f.highest; grade = r }; size = f.size }
+
 -- g is the graph, y are the settled values of its bounds, z those of its grades
 module _ (g : Graph) where
-  -- the name of a variable
+  -- the name of a variable; no row and no finding is of one that is not there
   abbrev pub name_of : ℕ → List ℕ
   name_of v = (slice_index_or g.variables v no_variable).name
 
@@ -25,13 +38,9 @@ module _ (g : Graph) (y : List Bound) (z : List Grade) where
   abbrev pub grade_there : ℕ → ℕ → Grade
   grade_there p v = at grades z (grade_at (variables_of g) p v)
 
-  -- what is known of it
-  abbrev pub reach_of : ℕ → ℕ → Option (Bound × Bound) → Option Reach
-  reach_of p v None = None
-  reach_of p v (Some i) = Some (record { lowest = i.0; highest = i.1; grade = grade_there p v })
-
+  -- its row
   abbrev pub row_of : ℕ → ℕ → Row
-  row_of p v = record { point = p; name = name_of g v; reach = reach_of p v (interval g y p v) }
+  row_of p v = row p (name_of g v) (interval g y p v) (grade_there p v)
 
   -- the rows of a point, in the order of the variables
   abbrev pub rows_at : ℕ → List Row
@@ -39,7 +48,7 @@ module _ (g : Graph) (y : List Bound) (z : List Grade) where
 
   -- what is found, with the grade of the index
   abbrev pub found_at : Finding → Found
-  found_at f = record { line = f.place.line; column = f.place.column; name = name_of g f.variable; reach = record { lowest = f.lowest; highest = f.highest; grade = grade_there f.point f.variable }; size = f.size }
+  found_at f = found f (name_of g f.variable) (grade_there f.point f.variable)
 
   -- the report after so many rounds of the bounds
   abbrev pub report_of : ℕ → Report

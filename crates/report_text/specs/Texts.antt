@@ -25,19 +25,20 @@ pub record Found : Type 0 where
   pub reach : Reach
   pub size : ℕ
 
+-- what a report has: the count of points, the rounds of the bounds, rows and findings
 pub record Report : Type 0 where
   pub points : ℕ
   pub rounds : ℕ
   pub rows : List Row
   pub found : List Found
 
--- a line: fields parted by one space, and LF at its end
+-- a line: fields parted by one space, and LF at its end; every line of a report has fields
 abbrev pub line_of : List (List ℕ) → List ℕ
 line_of [] = 10 ∷ []
 line_of (f ∷ []) = f ++ 10 ∷ []
 line_of (f ∷ g ∷ fs) = f ++ 32 ∷ line_of (g ∷ fs)
 
--- the fields of the four kinds of lines
+-- the fields of the first line, of what is known of a variable, of its row, of a finding, and of the last line
 abbrev pub head_fields : ℕ → ℕ → List (List ℕ)
 head_fields points rounds = codes "points" ∷ decimal points ∷ codes "rounds" ∷ decimal rounds ∷ []
 
