@@ -1,56 +1,72 @@
--- Lines one behind the other, line by line.
-use Rattle.std.proofs.Common.{◌≡◌, ℕ, ◌+◌, ◌-◌, ◌<◌, ◌≤◌, List, [], ◌∷◌, ◌++◌, length, get_or, take, drop, Some, None, sym, ap, ◌∙◌, arith, length-append, length-drop, append_assoc, append-nil}
-use Rattle.std.specs.Global.{Vec}
-use Rattle.std.specs.Prelude.{vec_items}
-use Rattle.std.proofs.lemmas.List.{take_more, take_all, take_rest, take_at, drop_at, drop_all, drop-drop, map-append, take-append-drop}
+-- Pieces of a text one behind the other, and how they come into a lent buffer piece by piece.
+use Rattle.std.proofs.Common.{◌≡◌, ℕ, ◌+◌, ◌-◌, ◌<◌, ◌≤◌, List, [], ◌∷◌, ◌++◌, length, get_or, take, drop, sym, ap, ◌∙◌, subst, arith, length-append, length-drop, append_assoc, append-nil}
+use Rattle.std.specs.List.{flat_map}
+use Rattle.std.proofs.lemmas.List.{take_more, take_all, take_rest, take_at, drop_at, drop_all, drop-drop, take-append-drop}
 use Rattle.std.proofs.lemmas.List.Concat.{flat_map-append}
-use Rattle.std.proofs.lemmas.Bool.Decides.{nat_tests}
 use borrow.Rule.Slice.PartMut.{put_mid}
-use Rattle.report.specs.Gathered.{texts}
-use Rattle.report.specs.Reported.{concat, left_of}
+use Rattle.lists.specs.Fronts.{Front}
 
--- the first i lines, one behind the other
-abbrev pub first : List (Vec ℕ) → ℕ → List ℕ
-first ls i = concat (texts (take i ls))
+-- what is lent of a buffer from byte e on
+abbrev pub tail_of : List ℕ → ℕ → List ℕ
+tail_of now e = take (length now - e) (drop e now)
 
-concat_both : (xs ys : List (Vec ℕ)) → concat (texts (xs ++ ys)) ≡ concat (texts xs) ++ concat (texts ys)
-concat_both xs ys = ap concat (map-append (λ (l : Vec ℕ). vec_items l) xs ys) ∙ flat_map-append (λ (l : List ℕ). l) (texts xs) (texts ys)
+module _ (xs old now : List ℕ) (e : ℕ) (f : Front xs old now e) where
+  long : length xs ≤ length old → length now ≡ length old
+  long h = omega (arith, f.count, ap length f.list, length-append xs (drop e old), length-drop e old)
 
-module _ (ls : List (Vec ℕ)) where
-  pub first_more : (i : ℕ) (v : Vec ℕ) → i < length ls → v ≡ get_or ls i v → first ls (i + 1) ≡ first ls i ++ v.items
-  first_more i v h e =
-      ap (λ (ms : List (Vec ℕ)). concat (texts ms)) (take_more ls i v h ∙ ap (λ (x : Vec ℕ). take i ls ++ x ∷ []) (sym e))
-      ∙ concat_both (take i ls) (v ∷ [])
-      ∙ ap (λ (ms : List ℕ). first ls i ++ ms) (append-nil v.items)
+  -- there is room behind what stands at the front
+  pub room_behind : (ys : List ℕ) → length (xs ++ ys) ≤ length old → length ys ≤ length (tail_of now e)
+  room_behind ys h =
+      let sum = length-append xs ys in
+      omega (arith, f.count, long (omega (arith, sum)), sum, ap length (take_rest now e), length-drop e now)
 
-  pub first_all : (i : ℕ) → length ls ≤ i → first ls i ≡ concat (texts ls)
-  first_all i h = ap (λ (ms : List (Vec ℕ)). concat (texts ms)) (take_all i ls h)
+  -- what is written there stands behind it
+  pub front_then : (ys tail : List ℕ) (n : ℕ) → Front ys (tail_of now e) tail n → Front (xs ++ ys) old (put_mid e (length now - e) now tail) (e + n)
+  front_then ys tail n w =
+      let part : tail_of now e ≡ drop e old = take_rest now e ∙ ap (drop e) f.list ∙ drop_at xs (drop e old) e (sym f.count) in
+      let behind : tail ≡ ys ++ drop (e + n) old = w.list ∙ ap (λ (zs : List ℕ). ys ++ drop n zs) part ∙ ap (λ (zs : List ℕ). ys ++ zs) (drop-drop n e old) in
+      let before : take e now ≡ xs = ap (take e) f.list ∙ take_at xs (drop e old) e (sym f.count) in
+      let none : drop (length now - e) (drop e now) ≡ [] = drop_all (length now - e) (drop e now) (omega (arith, length-drop e now)) in
+      record {
+        count = omega (arith, f.count, w.count, length-append xs ys);
+        list =
+            ap (λ (zs : List ℕ). zs ++ (tail ++ drop (length now - e) (drop e now))) before
+            ∙ ap (λ (zs : List ℕ). xs ++ (tail ++ zs)) none
+            ∙ ap (λ (zs : List ℕ). xs ++ zs) (append-nil tail ∙ behind)
+            ∙ sym (append_assoc xs ys (drop (e + n) old));
+      }
 
-  pub first_within : (i : ℕ) → length (first ls i) ≤ length (concat (texts ls))
+module _ {X : Type 0} (text : X → List ℕ) (xs : List X) where
+  -- the first i pieces, one behind the other
+  abbrev pub first : ℕ → List ℕ
+  first i = flat_map text (take i xs)
+
+  first_more : (i : ℕ) (d : X) → i < length xs → first (i + 1) ≡ first i ++ text (get_or xs i d)
+  first_more i d h =
+      ap (flat_map text) (take_more xs i d h)
+      ∙ flat_map-append text (take i xs) (get_or xs i d ∷ [])
+      ∙ ap (λ (ys : List ℕ). first i ++ ys) (append-nil (text (get_or xs i d)))
+
+  pub first_all : (i : ℕ) → length xs ≤ i → first i ≡ flat_map text xs
+  first_all i h = ap (flat_map text) (take_all i xs h)
+
+  first_within : (i : ℕ) → length (first i) ≤ length (flat_map text xs)
   first_within i =
-      let e = ap length (ap (λ (ms : List (Vec ℕ)). concat (texts ms)) (sym (take-append-drop i ls)) ∙ concat_both (take i ls) (drop i ls)) in
-      omega (arith, e, length-append (first ls i) (concat (texts (drop i ls))))
+      let e = ap (λ (ys : List X). length (flat_map text ys)) (sym (take-append-drop i xs)) ∙ ap length (flat_map-append text (take i xs) (drop i xs)) in
+      omega (arith, e, length-append (first i) (flat_map text (drop i xs)))
 
--- what is left of a room
-pub left_some : (n k l : ℕ) → l + k ≡ n → Some l ≡ left_of n k
-left_some n k l e = grind (arith, nat_tests)
+  -- one piece more: ys
+  module _ (i : ℕ) (d : X) (ys : List ℕ) (is : ys ≡ text (get_or xs i d)) (h : i < length xs) where
+    next_text : first (i + 1) ≡ first i ++ ys
+    next_text = first_more i d h ∙ ap (λ (zs : List ℕ). first i ++ zs) (sym is)
 
-pub left_none : (n k : ℕ) → n < k → None ≡ left_of n k
-left_none n k h = grind (arith, nat_tests)
+    pub next_within : length (first i) + length ys ≤ length (flat_map text xs)
+    next_within = omega (arith, ap length next_text, length-append (first i) ys, first_within (i + 1))
 
--- a line is written behind those that stand at the front
-pub put_on : (front line old now tail : List ℕ) (e : ℕ) → e ≡ length front → now ≡ front ++ drop e old →
-    tail ≡ line ++ drop (length line) (take (length now - e) (drop e now)) → put_mid e (length now - e) now tail ≡ (front ++ line) ++ drop (length (front ++ line)) old
-put_on front line old now tail e f g h =
-    let rest : drop e now ≡ drop e old = ap (drop e) g ∙ drop_at front (drop e old) e (sym f) in
-    let part : take (length now - e) (drop e now) ≡ drop e old = take_rest now e ∙ rest in
-    let long : length front + length line ≡ length (front ++ line) = sym (length-append front line) in
-    let behind : drop (length line) (drop e old) ≡ drop (length (front ++ line)) old =
-    drop-drop (length line) e old ∙ ap (λ (k : ℕ). drop (k + length line) old) f ∙ ap (λ (k : ℕ). drop k old) long in
-    let ys : tail ≡ line ++ drop (length (front ++ line)) old = h ∙ ap (λ (zs : List ℕ). line ++ drop (length line) zs) part ∙ ap (λ (zs : List ℕ). line ++ zs) behind in
-    let none : drop (length now - e) (drop e now) ≡ [] = drop_all (length now - e) (drop e now) (omega (arith, length-drop e now)) in
-    let before : take e now ≡ front = ap (take e) g ∙ take_at front (drop e old) e (sym f) in
-    ap (λ (zs : List ℕ). zs ++ (tail ++ drop (length now - e) (drop e now))) before
-    ∙ ap (λ (zs : List ℕ). front ++ (tail ++ zs)) none
-    ∙ ap (λ (zs : List ℕ). front ++ zs) (append-nil tail ∙ ys)
-    ∙ sym (append_assoc front line (drop (length (front ++ line)) old))
+    -- in a buffer with room for all pieces
+    module _ (old now : List ℕ) (e : ℕ) (f : Front (first i) old now e) where
+      pub next_room : length (flat_map text xs) ≤ length old → length ys ≤ length (tail_of now e)
+      next_room room = room_behind (first i) old now e f ys (omega (arith, next_within, length-append (first i) ys))
+
+      pub next_front : (tail : List ℕ) (n : ℕ) → Front ys (tail_of now e) tail n → Front (first (i + 1)) old (put_mid e (length now - e) now tail) (e + n)
+      next_front tail n w = subst (λ (zs : List ℕ). Front zs old (put_mid e (length now - e) now tail) (e + n)) (sym next_text) (front_then (first i) old now e f ys tail n w)

@@ -9,11 +9,11 @@ use Rattle.refusal.specs.Reasons.{nowhere}
 use Rattle.refusal.specs.declared.Refusal.{Refusal}
 use Rattle.refusal.specs.declared.Reason.TheVariants.{NotSettled, ListTooShort}
 use Rattle.books.specs.Books.{at}
-use Rattle.equations.specs.Bounds.{bound_book, variables_of}
+use Rattle.equations.specs.Bounds.{bound_book, variables_of, is_there}
 use Rattle.equations.specs.Grades.{grade_at, grade_book}
 use Rattle.soundness.specs.Intervals.{interval}
 use Rattle.soundness.specs.Findings.{findings}
-use Rattle.soundness.specs.Questions.{is_settled, is_there}
+use Rattle.soundness.specs.Questions.{is_settled}
 use Rattle.soundness.specs.declared.Finding.{Finding}
 use Rattle.soundness.proofs.Listing.{listed, few_findings}
 use Rattle.reader.specs.Meaning.{meaning}
@@ -21,7 +21,7 @@ use Rattle.reader.specs.declared.graph.Graph.{Graph}
 use Rattle.script_books.specs.Fitted.{graph_fits}
 use Rattle.sessions.specs.Answers.{NotFilled, asked_interval, asked_grade}
 use Rattle.sessions.proofs.Asked.{asked_is, there_of}
-use Rattle.report.specs.Gathered.{SettledOn}
+use Rattle.report.specs.Settles.{SettledOn}
 
 -- an answer, not refused
 abbrev answered : {X : Type 0} → X → Result X Refusal

@@ -1,4 +1,4 @@
 pub mod Lines
-pub mod Reported
-pub mod Gathered
 pub mod Settles
+pub mod Reported
+pub mod Scripts

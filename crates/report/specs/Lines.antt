@@ -1,18 +1,25 @@
--- What the lines of a report are made of.
-use Rattle.std.specs.Prelude.{ℕ, List, Some, None, Option}
-use Rattle.kinds.specs.declared.bound.Bound.{Bound}
-use Rattle.kinds.specs.declared.grade.Grade.{Grade}
-use Rattle.soundness.specs.declared.Finding.{Finding}
-use Rattle.report_text.specs.Texts.{Reach, Row, Found}
+-- The text of the lines of a report.
+use Rattle.std.specs.Prelude.{ℕ, List, map, decimal, flat_map}
+use Rattle.std.specs.Fmt.{signed_decimal}
+use Rattle.std.specs.Global.{Vec}
+use Rattle.report_text.specs.Texts.{line_of}
+use Rattle.report.specs.declared.lines.Field.{Field}
+use Rattle.report.specs.declared.lines.Field.TheVariants.{Text, Number, Signed}
 
--- what is known of a variable, by its interval and its grade
-abbrev pub known : Option (Bound × Bound) → Grade → Option Reach
-known None g = None
-known (Some i) g = Some (record { lowest = i.0; highest = i.1; grade = g })
+-- a word or a name as it is, a number in digits
+abbrev pub field_text : Field → List ℕ
+field_text (Text t) = t.now
+field_text (Number n) = decimal n
+field_text (Signed z) = signed_decimal z
 
--- a row, and what is told of a finding
-abbrev pub row : ℕ → List ℕ → Option (Bound × Bound) → Grade → Row
-row p n i g = record { point = p; name = n; reach = known i g }
+-- a line, with LF at its end
+abbrev pub line_text : List Field → List ℕ
+line_text fs = line_of (map field_text fs)
 
-abbrev pub found : Finding → List ℕ → Grade → Found
-found f n g = record { line = f.place.line; column = f.place.column; name = n; reach = record { lowest = f.lowest; highest = f.highest; grade = g }; size = f.size }
+-- lines one behind the other
+abbrev pub lines_text : List (Vec Field) → List ℕ
+lines_text ls = flat_map (λ l. line_text l.items) ls
+
+-- lines as the texts of their fields
+abbrev pub texts : List (Vec Field) → List (List (List ℕ))
+texts ls = map (λ l. map field_text l.items) ls

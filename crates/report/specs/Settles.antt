@@ -1,11 +1,12 @@
 -- What a run with a budget comes to, from the beginning.
-use Rattle.std.specs.Prelude.{◌≡◌, ℕ, ◌<◌, ◌≤◌, ◌⊎◌, List}
+use Rattle.std.specs.Prelude.{◌≡◌, ℕ, ◌<◌, ◌≤◌, Bool, true, ◌⊎◌, List}
 use Rattle.kinds.specs.Limits.{most_rounds}
 use Rattle.kinds.specs.Kinds.{Ops}
 use Rattle.refusal.specs.Reasons.{nowhere}
 use Rattle.refusal.specs.declared.Refusal.{Refusal}
 use Rattle.refusal.specs.declared.Reason.TheVariants.{BudgetTooLarge, NotSettled}
 use Rattle.books.specs.declared.Alternative.{Alternative}
+use Rattle.reader.specs.declared.graph.Graph.{Graph}
 use Rattle.report_text.specs.Laws.{SettlesAfter, MovesAfter}
 
 module _ {V W : Type 0} (o : Ops V W) (m : List (List (Alternative V W))) (budget : ℕ) where
@@ -18,3 +19,8 @@ module _ {V W : Type 0} (o : Ops V W) (m : List (List (Alternative V W))) (budge
   -- why it is not: 32, the budget is too large; or 31, its rounds leave values that are not settled
   abbrev pub NoEnd : Refusal → Type 0
   NoEnd e = ((most_rounds < budget) × (e ≡ nowhere BudgetTooLarge)) ⊎ ((budget ≤ most_rounds) × MovesAfter o m budget × (e ≡ nowhere NotSettled))
+
+-- a session is settled, and its book is that of the graph g
+pub record SettledOn (settled : Bool) (h g : Graph) : Type 0 where
+  pub yes : settled ≡ true
+  pub same : h ≡ g

@@ -8,12 +8,12 @@ ghost use Rattle.equations.specs.Grades.{grade_at};
 ghost use Rattle.refusal.specs.Reasons.{no_memory};
 ghost use Rattle.soundness.specs.Findings.{findings};
 ghost use Rattle.reader.specs.Meaning.{meaning};
-ghost use Rattle.report_text.specs.Texts.{lines, line_of, row_fields, found_fields};
-ghost use Rattle.report_text.specs.Reports.{report_of, rows_at, found_at, name_of};
-ghost use Rattle.report.specs.Lines.{found};
-ghost use Rattle.report.specs.Gathered.{SettledOn, texts};
+ghost use Rattle.report_text.specs.Texts.{lines, row_fields, found_fields};
+ghost use Rattle.report_text.specs.Reports.{found, report_of, rows_at, found_at, name_of};
+ghost use Rattle.report.specs.Lines.{field_text, texts};
+ghost use Rattle.report.specs.Settles.{SettledOn};
 
-use crate::lines::{end_line, found_line, head_line, row_line};
+use crate::lines::{Field, end_line, found_line, head_line, row_line};
 use kinds::{Bound, Grade};
 use reader::graph::Graph;
 use refusal::{Place, Reason, Refusal};
@@ -39,16 +39,16 @@ pub(crate) type Bounds<'a> = Session<'a, Bound, BoundBook<'a>>;
 pub(crate) type Grades<'a> = Session<'a, Grade, GradeBook<'a>>;
 
 // The lines of a point, one for each variable, behind those that are there.
-fn push_rows(
+fn push_rows<'a>(
     heap: Global,
-    lines: &mut Vec<Vec<u8>>,
-    graph: &Graph,
+    lines: &mut Vec<Vec<Field<'a>>>,
+    graph: &'a Graph,
     bounds: &Bounds<'_>,
     grades: &Grades<'_>,
     point: usize,
 ) -> Result<(), Refusal>
     requires { point < graph.now.points }
-    ensures { SettledOn bounds.now.settled bounds.now.book.graph.now graph.now → SettledOn grades.now.settled grades.now.book.graph.now graph.now → MatchResult result (λ _. texts lines.new.items ≡ texts lines.old.items ++ map (λ r. line_of (row_fields r)) (rows_at (meaning graph.now) (values bounds.now.analysis.list.now) (values grades.now.analysis.list.now) point)) (λ e. e ≡ no_memory) }
+    ensures { SettledOn bounds.now.settled bounds.now.book.graph.now graph.now → SettledOn grades.now.settled grades.now.book.graph.now graph.now → MatchResult result (λ _. texts lines.new.items ≡ texts lines.old.items ++ map row_fields (rows_at (meaning graph.now) (values bounds.now.analysis.list.now) (values grades.now.analysis.list.now) point)) (λ e. e ≡ no_memory) }
 {
     for (variable, declared) in graph.variables().iter().enumerate() {
         let interval = bounds.interval(point, variable)?;
@@ -70,13 +70,13 @@ fn list_findings(heap: Global, graph: &Graph, bounds: &Bounds<'_>) -> Result<Vec
 }
 
 // The line of a finding.
-fn finding_line(
+fn finding_line<'a>(
     heap: Global,
-    graph: &Graph,
+    graph: &'a Graph,
     grades: &Grades<'_>,
     finding: Finding,
-) -> Result<Vec<u8>, Refusal>
-    ensures { SettledOn grades.now.settled grades.now.book.graph.now graph.now → finding.point < graph.now.points → finding.variable < variables_of (meaning graph.now) → MatchResult result (λ l. l.items ≡ line_of (found_fields (found finding (name_of (meaning graph.now) finding.variable) (at grades_kind (values grades.now.analysis.list.now) (grade_at (variables_of (meaning graph.now)) finding.point finding.variable))))) (λ e. e ≡ no_memory) }
+) -> Result<Vec<Field<'a>>, Refusal>
+    ensures { SettledOn grades.now.settled grades.now.book.graph.now graph.now → finding.point < graph.now.points → finding.variable < variables_of (meaning graph.now) → MatchResult result (λ l. map field_text l.items ≡ found_fields (found finding (name_of (meaning graph.now) finding.variable) (at grades_kind (values grades.now.analysis.list.now) (grade_at (variables_of (meaning graph.now)) finding.point finding.variable)))) (λ e. e ≡ no_memory) }
 {
     let declared = graph.variables().get(finding.variable);
     let variable = declared.ok_or(Refusal::unplaced(Reason::NotThere))?;
@@ -85,14 +85,15 @@ fn finding_line(
 }
 
 // The lines of the findings, behind those that are there. Answers how many there are.
-fn push_findings(
+#[tactic(auto, using(crate::proofs::Settled::next_there, crate::proofs::Rows::line_of_next, std::proofs::lemmas::List::take_all))]
+fn push_findings<'a>(
     heap: Global,
-    lines: &mut Vec<Vec<u8>>,
-    graph: &Graph,
+    lines: &mut Vec<Vec<Field<'a>>>,
+    graph: &'a Graph,
     bounds: &Bounds<'_>,
     grades: &Grades<'_>,
 ) -> Result<usize, Refusal>
-    ensures { SettledOn bounds.now.settled bounds.now.book.graph.now graph.now → SettledOn grades.now.settled grades.now.book.graph.now graph.now → MatchResult result (λ n. (n ≡ length (findings (meaning graph.now) (values bounds.now.analysis.list.now))) × (texts lines.new.items ≡ texts lines.old.items ++ map (λ f. line_of (found_fields (found_at (meaning graph.now) (values bounds.now.analysis.list.now) (values grades.now.analysis.list.now) f))) (findings (meaning graph.now) (values bounds.now.analysis.list.now)))) (λ e. e ≡ no_memory) }
+    ensures { SettledOn bounds.now.settled bounds.now.book.graph.now graph.now → SettledOn grades.now.settled grades.now.book.graph.now graph.now → MatchResult result (λ n. (n ≡ length (findings (meaning graph.now) (values bounds.now.analysis.list.now))) × (texts lines.new.items ≡ texts lines.old.items ++ map (λ f. found_fields (found_at (meaning graph.now) (values bounds.now.analysis.list.now) (values grades.now.analysis.list.now) f)) (findings (meaning graph.now) (values bounds.now.analysis.list.now)))) (λ e. e ≡ no_memory) }
 {
     let list = list_findings(heap, graph, bounds)?;
     for finding in &list {
@@ -103,14 +104,14 @@ fn push_findings(
 }
 
 // All lines of the report, of settled sessions.
-pub(crate) fn gather(
+pub(crate) fn gather<'a>(
     heap: Global,
-    graph: &Graph,
+    graph: &'a Graph,
     bounds: &Bounds<'_>,
     grades: &Grades<'_>,
     rounds: u16,
-) -> Result<Vec<Vec<u8>>, Refusal>
-    ensures { SettledOn bounds.now.settled bounds.now.book.graph.now graph.now → SettledOn grades.now.settled grades.now.book.graph.now graph.now → MatchResult result (λ ls. texts ls.items ≡ map line_of (lines (report_of (meaning graph.now) (values bounds.now.analysis.list.now) (values grades.now.analysis.list.now) rounds))) (λ e. e ≡ no_memory) }
+) -> Result<Vec<Vec<Field<'a>>>, Refusal>
+    ensures { SettledOn bounds.now.settled bounds.now.book.graph.now graph.now → SettledOn grades.now.settled grades.now.book.graph.now graph.now → MatchResult result (λ ls. texts ls.items ≡ lines (report_of (meaning graph.now) (values bounds.now.analysis.list.now) (values grades.now.analysis.list.now) rounds)) (λ e. e ≡ no_memory) }
 {
     let mut lines = Vec::new(heap);
     lines.push(head_line(heap, graph.points(), rounds)?)?;

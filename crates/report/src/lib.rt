@@ -3,6 +3,7 @@
 
 mod gathering;
 mod lines;
+mod writers;
 mod writing;
 
-pub use writing::{Report, write_report};
+pub use writing::{Report, report_text, write_report};

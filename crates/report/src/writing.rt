@@ -1,33 +1,35 @@
 // The report of a script, and how it is written into a lent buffer.
-ghost use Rattle.std.specs.Prelude.{◌≡◌, ◌<◌, ◌≤◌, ◌++◌, true, None, length, drop, MatchResult};
+ghost use Rattle.std.specs.Prelude.{◌≡◌, ◌<◌, true, None, length, MatchResult};
 ghost use Rattle.books.specs.Entries.{values};
 ghost use Rattle.strategy.specs.Lives.{begun};
 ghost use Rattle.solver.specs.Analyses.{state_of};
 ghost use Rattle.refusal.specs.Reasons.{nowhere, no_memory};
 ghost use Rattle.refusal.specs.declared.Reason.TheVariants.{BufferTooShort};
-ghost use Rattle.kinds.specs.Values.{bounds, grades};
-ghost use Rattle.equations.specs.Bounds.{bound_book};
-ghost use Rattle.equations.specs.Grades.{grade_book};
-ghost use Rattle.report_text.specs.Laws.{OneEnd, ReadBack};
+ghost use Rattle.report_text.specs.Standing.{ReportsStand};
 ghost use Rattle.lists.specs.Fronts.{Front};
 ghost use Rattle.reader.specs.Meaning.{meaning};
-ghost use Rattle.report.specs.Gathered.{texts};
+ghost use Rattle.report.specs.Lines.{texts, lines_text};
 ghost use Rattle.report.specs.Settles.{SettlesWithin, NoEnd};
-ghost use Rattle.report.specs.Reported.{Gathered, NoReport, Written, NotWritten, concat, left_of};
+ghost use Rattle.report.specs.Reported.{Gathered, NoReport, Written, NotWritten};
+ghost use Rattle.report.specs.Scripts.{ReportOf, NoReportOf};
 
 use crate::gathering::gather;
+use crate::lines::Field;
+use crate::writers::{room_behind, write_lines};
 use books::{Book, Entry};
 use kinds::{Bound, Grade, Kind};
 use reader::graph::Graph;
+use reader::read;
 use refusal::{Reason, Refusal};
 use script_books::{BoundBook, GradeBook};
 use sessions::Session;
+use solver::MOST_ROUNDS;
 use std::alloc::Global;
 
-// The lines of a script's report.
+// The lines of a script's report, with names that are lent from its graph.
 #[derive(Drop)]
-pub struct Report {
-    lines: Vec<Vec<u8>>,
+pub struct Report<'a> {
+    lines: Vec<Vec<Field<'a>>>,
 }
 
 // An entry for an analysis to write over.
@@ -38,38 +40,6 @@ fn blank<K: Kind>(value: K) -> Entry<K>
         value,
         choice: None,
     }
-}
-
-// Writes a line into the tail of a buffer, from where the last line ended. Answers how far it came.
-fn write_line(tail: &mut [u8], line: &[u8]) -> usize
-    requires { length line.now ≤ length tail.old }
-    ensures { (result ≡ length line.now) × (tail.new ≡ line.now ++ drop (length line.now) tail.old) }
-{
-    tail[0..line.len()].copy_from_slice(line);
-    line.len()
-}
-
-// The room that is left behind lines in so many bytes, if there is enough.
-fn room_behind(lines: &[Vec<u8>], room: usize) -> Option<usize>
-    ensures { result ≡ left_of room (length (concat (texts lines.now))) }
-{
-    let mut left = room;
-    for line in lines {
-        left = left.checked_sub(line.len())?;
-    }
-    Some(left)
-}
-
-// Writes lines into the front of a buffer that has room for them. Answers how many bytes that takes.
-fn write_lines(buffer: &mut [u8], lines: &[Vec<u8>]) -> usize
-    requires { length (concat (texts lines.now)) ≤ length buffer.old }
-    ensures { (result ≡ length (concat (texts lines.now))) × (buffer.new ≡ concat (texts lines.now) ++ drop (length (concat (texts lines.now))) buffer.old) }
-{
-    let mut end = 0;
-    for line in lines {
-        end += write_line(&mut buffer[end..], line);
-    }
-    end
 }
 
 // Runs a session with a budget, and says after how many rounds it is settled, where it has just begun.
@@ -87,9 +57,9 @@ fn settle<K: Kind, B: Book<K> + Copy>(
     Ok(progress.rounds)
 }
 
-impl Report {
+impl<'a> Report<'a> {
     // The report of a script, whose two analyses are run with this budget each.
-    pub fn new(heap: Global, graph: &Graph, budget: usize) -> Result<Report, Refusal>
+    pub fn new(heap: Global, graph: &'a Graph, budget: usize) -> Result<Report<'a>, Refusal>
         ensures report { MatchResult result (λ r. Gathered (meaning graph.now) budget (texts r.lines.items)) (λ e. NoReport (meaning graph.now) budget e) }
     {
         let bound_book = BoundBook::new(graph);
@@ -106,7 +76,7 @@ impl Report {
 
     // Writes it into the front of a buffer. Answers how many bytes that takes.
     pub fn write(&self, buffer: &mut [u8]) -> Result<usize, Refusal>
-        ensures { MatchResult result (λ n. Front (concat (texts self.now.lines.items)) buffer.old buffer.new n) (λ e. (length buffer.old < length (concat (texts self.now.lines.items))) × (buffer.new ≡ buffer.old) × (e ≡ nowhere BufferTooShort)) }
+        ensures { MatchResult result (λ n. Front (lines_text self.now.lines.items) buffer.old buffer.new n) (λ e. (length buffer.old < length (lines_text self.now.lines.items)) × (buffer.new ≡ buffer.old) × (e ≡ nowhere BufferTooShort)) }
     {
         if room_behind(&self.lines, buffer.len()).is_none() {
             return Err(Refusal::unplaced(Reason::BufferTooShort));
@@ -114,19 +84,20 @@ impl Report {
         Ok(write_lines(buffer, &self.lines))
     }
 
-    // Its text.
+    // Its text. Its length is all that a `usize` counts but what is left behind it; a longer text has no room in memory.
     pub fn text(&self, heap: Global) -> Result<Vec<u8>, Refusal>
-        ensures { MatchResult result (λ t. t.items ≡ concat (texts self.now.lines.items)) (λ e. e ≡ no_memory) }
+        ensures { MatchResult result (λ t. t.items ≡ lines_text self.now.lines.items) (λ e. e ≡ no_memory) }
     {
-        let mut text = Vec::new(heap);
-        for line in &self.lines {
-            text.extend_from_slice(line)?;
-        }
+        let left = room_behind(&self.lines, usize::MAX);
+        let left = left.ok_or(Refusal::unplaced(Reason::OutOfMemory))?;
+        let mut text = vec![in heap; 0; usize::MAX - left]?;
+        write_lines(text.as_mut_slice(), &self.lines);
         Ok(text)
     }
 }
 
 // Runs both analyses of a script with this budget each, and writes the report into the front of a buffer. Answers how many bytes it takes.
+#[tactic(auto, using(report_text::proofs::Standing::reports_stand))]
 pub fn write_report(
     heap: Global,
     graph: &Graph,
@@ -134,8 +105,17 @@ pub fn write_report(
     buffer: &mut [u8],
 ) -> Result<usize, Refusal>
     ensures report { MatchResult result (λ n. Written (meaning graph.now) budget buffer.old buffer.new n) (λ e. NotWritten (meaning graph.now) budget buffer.old buffer.new e) }
-    ensures ends { OneEnd bounds (bound_book (meaning graph.now)) × OneEnd grades (grade_book (meaning graph.now)) }
-    ensures read_back { ReadBack }
+    ensures laws { ReportsStand }
 {
     Report::new(heap, graph, budget)?.write(buffer)
+}
+
+// The text of the report of a script, whose two analyses are run with the largest budget.
+#[tactic(auto, using(report_text::proofs::Standing::reports_stand))]
+pub fn report_text(heap: Global, script: &[u8]) -> Result<Vec<u8>, Refusal>
+    ensures text { MatchResult result (λ t. ReportOf script.now t.items) (λ e. NoReportOf script.now e) }
+    ensures laws { ReportsStand }
+{
+    let graph = read(heap, script)?;
+    Report::new(heap, &graph, MOST_ROUNDS)?.text(heap)
 }

@@ -8,7 +8,7 @@ use Rattle.reader.specs.Meaning.{meaning}
 use Rattle.reader.specs.declared.graph.Graph.{Graph}
 use Rattle.script_books.specs.declared.bounds.BoundBook.{BoundBook}
 use Rattle.script_books.specs.declared.grades.GradeBook.{GradeBook}
-use Rattle.report.specs.Gathered.{texts}
+use Rattle.report.specs.Lines.{texts}
 use Rattle.report.proofs.Reporting.{of_book, gathered_of}
 use Rattle.report.proofs.writing.Report.new.Goals as goal
 

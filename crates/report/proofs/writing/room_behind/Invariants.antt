@@ -1,7 +1,0 @@
-use Rattle.std.proofs.Common.{◌≡◌, ◌+◌, length}
-use Rattle.report.proofs.Joining.{first}
-use Rattle.report.proofs.writing.room_behind.Given as goal
-
--- what is left lies behind the lines so far
-abbrev pub invariant-loop-line : goal.invariant-loop-line
-invariant-loop-line l = l.left + length (first l.lines l.line-index) ≡ l.room
