@@ -1,17 +1,17 @@
 // Reads a script from standard input, and prints its report: `fence`. `fence --listing` prints the points and edges of the script, `fence --help` what the program does. A refused script gets one line.
 #![tactic(auto)]
 
-ghost use Rattle.std.specs.Prelude.{◌≤◌, IfOk, MatchResult, vec_len};
-ghost use Rattle.fence.specs.Reporting.{ReportOf, NoReportOf};
+ghost use Rattle.std.specs.Prelude.{◌≡◌, ◌≤◌, IfOk, vec_len};
+ghost use Rattle.std.specs.Process.{exit_status};
 
 use anyhow::anyhow;
 use listing::{Listing, RefusalLine};
 use reader::read;
 use refusal::Refusal;
-use report::Report;
-use solver::MOST_ROUNDS;
+use report::report_text;
 use std::alloc::Global;
 use std::io::{Read, Write};
+use std::process::ExitCode;
 use std::{env, io};
 
 // One byte past the limit of a script tells that it is too long, so no more is read.
@@ -24,7 +24,7 @@ usage: fence < SCRIPT             prints how far each variable can go at each po
        fence --listing < SCRIPT   prints the points and edges of the script
        fence --help               prints this
 
-A text that is no script gets one line: refused, layer, number, line, column.";
+A text that is refused gets one line: refused, layer, number, line, column; and status 1.";
 
 // What the program is asked to do.
 #[derive(Clone, Copy)]
@@ -45,30 +45,36 @@ fn script_from_input(rt: &HostRuntime) -> io::Result<Vec<u8>>
     Ok(script)
 }
 
-// The text of a script's report.
-fn report_text(heap: Global, script: &[u8]) -> Result<Vec<u8>, Refusal>
-    ensures { MatchResult result (λ t. ReportOf script.now t.items) (λ e. NoReportOf script.now e) }
+// Says why a text is refused. Answers the status.
+fn print_refusal(rt: &HostRuntime, refusal: Refusal) -> io::Result<ExitCode>
+    ensures { IfOk result (λ status. exit_status status ≡ 1) }
 {
-    let graph = read(heap, script)?;
-    Report::new(heap, &graph, MOST_ROUNDS)?.text(heap)
+    println!(rt; "{}", RefusalLine(refusal))?;
+    Ok(ExitCode::FAILURE)
 }
 
-// Prints the report of the script on standard input.
-fn print_report(rt: &HostRuntime) -> io::Result<()> {
+// Prints the report of the script on standard input. Answers the status.
+fn print_report(rt: &HostRuntime) -> io::Result<ExitCode>
+    ensures { IfOk result (λ status. exit_status status ≤ 1) }
+{
     let script = script_from_input(rt)?;
     match report_text(rt.alloc(), &script) {
-        Ok(text) => rt.stdout().write_all(&text),
-        Err(refusal) => println!(rt; "{}", RefusalLine(refusal)),
+        Ok(text) => rt.stdout().write_all(&text)?,
+        Err(refusal) => return print_refusal(rt, refusal),
     }
+    Ok(ExitCode::SUCCESS)
 }
 
-// Prints the points and edges of the script on standard input.
-fn print_listing(rt: &HostRuntime) -> io::Result<()> {
+// Prints the points and edges of the script on standard input. Answers the status.
+fn print_listing(rt: &HostRuntime) -> io::Result<ExitCode>
+    ensures { IfOk result (λ status. exit_status status ≤ 1) }
+{
     let script = script_from_input(rt)?;
     match read(rt.alloc(), &script) {
-        Ok(graph) => println!(rt; "{}", Listing(&graph)),
-        Err(refusal) => println!(rt; "{}", RefusalLine(refusal)),
+        Ok(graph) => println!(rt; "{}", Listing(&graph))?,
+        Err(refusal) => return print_refusal(rt, refusal),
     }
+    Ok(ExitCode::SUCCESS)
 }
 
 // What the arguments ask for.
@@ -83,16 +89,32 @@ fn job_asked(rt: &HostRuntime) -> anyhow::Result<Job> {
     match word.as_str() {
         "--listing" => Ok(Job::Listing),
         "--help" => Ok(Job::Help),
-        _ => Err(anyhow!("unknown argument: try fence --help")),
+        _ => Err(anyhow!("unknown argument {word}: try fence --help")),
     }
 }
 
-// Does what the arguments ask for.
-fn main(rt: HostRuntime) -> anyhow::Result<()> {
-    match job_asked(&rt)? {
-        Job::Report => print_report(&rt)?,
-        Job::Listing => print_listing(&rt)?,
-        Job::Help => println!(rt; "{HELP}")?,
+// Does what the arguments ask for. Answers the status: 0, or 1 where a text is refused.
+fn run(rt: &HostRuntime) -> anyhow::Result<ExitCode>
+    ensures { IfOk result (λ status. exit_status status ≤ 1) }
+{
+    match job_asked(rt)? {
+        Job::Report => Ok(print_report(rt)?),
+        Job::Listing => Ok(print_listing(rt)?),
+        Job::Help => {
+            println!(rt; "{HELP}")?;
+            Ok(ExitCode::SUCCESS)
+        }
     }
-    Ok(())
+}
+
+// Runs the program. Where it cannot do what it is asked for, it says why, with status 2.
+fn main(rt: HostRuntime) -> ExitCode {
+    match run(&rt) {
+        Ok(status) => status,
+        Err(error) => {
+            // Where even that cannot be said, the status tells it.
+            let _ = eprintln!(rt; "fence: {error}");
+            ExitCode::from(2)
+        }
+    }
 }
