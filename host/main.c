@@ -1,38 +1,21 @@
 /* Prints the report of a script file, or the number of its refusal with exit status 1. */
 #include "fence.h"
+#include "script.h"
 
 #include <stdio.h>
 
-/* One byte past the limit tells that a script is too long, so no more of it is read. */
-static uint8_t script[FENCE_MOST_BYTES + 1];
+static struct script script;
 
 static uint8_t report[FENCE_ROOM];
 
-/* Reads the front of a file into the script. Answers whether it could. */
-static int read_script(const char *name, size_t *length)
+/* Sees to it that what was printed is out. Answers the exit status. */
+static int finish(bool printed, int status)
 {
-    FILE *file = fopen(name, "rb");
-    if (file == NULL) {
-        perror(name);
-        return 0;
-    }
-    *length = fread(script, 1, sizeof script, file);
-    int whole = !ferror(file);
-    if (!whole) {
-        perror(name);
-    }
-    fclose(file);
-    return whole;
-}
-
-/* Writes the report to standard output. Answers the exit status. */
-static int print_report(size_t length)
-{
-    if (fwrite(report, 1, length, stdout) != length || fflush(stdout) != 0) {
+    if (!printed || fflush(stdout) != 0) {
         perror("standard output");
         return 2;
     }
-    return 0;
+    return status;
 }
 
 int main(int argc, char **argv)
@@ -41,14 +24,13 @@ int main(int argc, char **argv)
         fputs("give the name of one script\n", stderr);
         return 2;
     }
-    size_t length;
-    if (!read_script(argv[1], &length)) {
+    if (!read_script(argv[1], &script)) {
         return 2;
     }
-    int64_t answer = fence_report(script, length, report, sizeof report);
+    int64_t answer = fence_report(script.text, script.length, report, sizeof report);
     if (answer < 0) {
-        printf("refused %d\n", (int)-answer);
-        return 1;
+        return finish(printf("refused %d\n", (int)-answer) > 0, 1);
     }
-    return print_report((size_t)answer);
+    size_t length = (size_t)answer;
+    return finish(fwrite(report, 1, length, stdout) == length, 0);
 }

@@ -2,6 +2,7 @@
 #![tactic(auto)]
 
 ghost use Rattle.std.specs.Prelude.{◌≡◌, ◌≤◌, ◌<◌, ◌^◌, pos, length, IfOk, MatchResult};
+ghost use Rattle.report_text.specs.Standing.{ReportsStand};
 ghost use Rattle.host.specs.Answers.{negated as negated_of, Reported, NotReported, Answers};
 
 use reader::read;
@@ -36,13 +37,17 @@ fn negated(refusal: Refusal) -> i64
 }
 
 // Reads a script, and writes its report into the front of a buffer. Answers how many bytes it takes, or the number of the refusal, negated.
-#[tactic(auto, using(crate::proofs::Reporting::length_told))]
+#[tactic(auto, using(crate::proofs::Reporting::length_told, report_text::proofs::Standing::reports_stand))]
 #[unsafe(no_mangle)]
 pub extern "C" fn fence_report(heap: Global, script: &[u8], report: &mut [u8]) -> i64
-    ensures { Answers script.now report.old report.new result }
+    ensures answer { Answers script.now report.old report.new result }
+    ensures laws { ReportsStand }
 {
     match read_and_report(heap, script, report) {
         Ok(length) => counted(length),
         Err(refusal) => negated(refusal),
     }
 }
+
+#[cfg(test)]
+mod tests;
