@@ -1,4 +1,7 @@
 // Where the values of a variable come from at a point, as the independent solver says it.
+ghost use Rattle.std.specs.Prelude.{◌≡◌, Some};
+ghost use Rattle.below.specs.Origins.{origin_of, origin_from, origin_text, origin_at, with_origin, origins_way};
+
 use crate::ascent::Row;
 use kinds::Grade;
 use language::{Action, Source};
@@ -18,6 +21,8 @@ pub enum Origin {
 pub struct Origins([Origin; 8]);
 
 impl From<Grade> for Origin {
+    ghost from_gives = { λ grade origin. origin ≡ origin_of grade };
+
     fn from(grade: Grade) -> Origin {
         match grade {
             Grade::Unreached => Origin::Nowhere,
@@ -29,6 +34,8 @@ impl From<Grade> for Origin {
 }
 
 impl From<Source> for Origin {
+    ghost from_gives = { λ source origin. origin ≡ origin_from source };
+
     fn from(source: Source) -> Origin {
         match source {
             Source::Written => Origin::Script,
@@ -39,6 +46,8 @@ impl From<Source> for Origin {
 }
 
 impl fmt::Display for Origin {
+    ghost output = { λ x. Some (origin_text x) };
+
     fn fmt<W: fmt::Write>(&self, f: &mut fmt::Formatter<W>) -> fmt::Result {
         f.write_str(match self {
             Origin::Nowhere => "unreached",
@@ -54,20 +63,26 @@ impl Origins {
     pub const DECLARED: Origins = Origins([Origin::Script; 8]);
 
     // The origin of a variable.
-    pub fn origin(&self, variable: usize) -> Origin {
+    pub fn origin(&self, variable: usize) -> Origin
+        ensures { result ≡ origin_at self.now variable }
+    {
         self.0.get(variable).copied().unwrap_or(Origin::Nowhere)
     }
 
     // With another origin for a variable.
-    fn with(mut self, variable: usize, origin: Origin) -> Origins {
-        if let Some(known) = self.0.get_mut(variable) {
-            *known = origin;
+    fn with(mut self, variable: usize, origin: Origin) -> Origins
+        ensures { result ≡ with_origin self variable origin }
+    {
+        if variable < self.0.len() {
+            self.0[variable] = origin;
         }
         self
     }
 }
 
 impl Row for Origins {
+    ghost way = { origins_way };
+
     // A value that is computed or looked up comes from where the variable comes from that it is made of. Guards are not asked.
     fn behind(self, action: Action) -> Option<Origins> {
         Some(match action {
@@ -80,11 +95,10 @@ impl Row for Origins {
     }
 
     fn raise(&mut self, other: &Origins) -> bool {
-        let mut rose = false;
-        for (origin, more) in self.0.iter_mut().zip(other.0.iter()) {
-            rose |= *origin < *more;
-            *origin = (*origin).max(*more);
+        let before = *self;
+        for k in 0..self.0.len() {
+            self.0[k] = self.0[k].max(other.0[k]);
         }
-        rose
+        self.0 != before.0
     }
 }

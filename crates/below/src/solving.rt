@@ -1,4 +1,8 @@
 // What the independent solver knows of a script.
+ghost use Rattle.std.specs.Prelude.{◌≡◌, IfOk, IsOkUnless};
+ghost use Rattle.refusal.specs.Reasons.{no_memory};
+ghost use Rattle.below.specs.Solving.{whole, reach, number_in, distance_in, cap_of, declared, fault_at, KnownBelow};
+
 use crate::ascent::{Ascent, ascend};
 use crate::known::{Fault, Known, Spot};
 use crate::origins::{Origin, Origins};
@@ -9,12 +13,16 @@ use refusal::Refusal;
 use std::alloc::Global;
 
 // The larger size of the two ends of a range.
-fn reach(range: Range) -> i64 {
+fn reach(range: Range) -> i64
+    ensures { result ≡ whole (reach range) }
+{
     range.low.saturating_abs().max(range.high.saturating_abs())
 }
 
 // The largest number that an action sets or leaves as an end.
-fn number_of(action: Action) -> i64 {
+fn number_of(action: Action) -> i64
+    ensures { result ≡ whole (number_in action) }
+{
     match action {
         Action::Any(_, range, _) | Action::Read(_, _, range) => reach(range),
         Action::AtMost(_, c) => c.saturating_abs(),
@@ -24,7 +32,9 @@ fn number_of(action: Action) -> i64 {
 }
 
 // How far an action moves an end.
-fn distance_of(action: Action) -> i64 {
+fn distance_of(action: Action) -> i64
+    ensures { result ≡ whole (distance_in action) }
+{
     match action {
         Action::Shift(_, _, c) => c.saturating_abs(),
         Action::Before(_, _, c) => c.saturating_abs(),
@@ -33,7 +43,9 @@ fn distance_of(action: Action) -> i64 {
 }
 
 // No end of a span that has one lies further from zero. Such an end is a number of the script, moved by edges, and no edge moves it more than twice: once as a highest value and once as a lowest.
-fn cap_of(graph: &Graph) -> i64 {
+fn cap_of(graph: &Graph) -> i64
+    ensures { result ≡ cap_of graph.now.variables.items graph.now.edges.items }
+{
     let declared = graph
         .variables()
         .iter()
@@ -48,7 +60,9 @@ fn cap_of(graph: &Graph) -> i64 {
 }
 
 // The declared ranges.
-fn declared(graph: &Graph) -> Spans {
+fn declared(graph: &Graph) -> Spans
+    ensures { result ≡ declared (cap_of graph.now.variables.items graph.now.edges.items) graph.now.variables.items }
+{
     let mut spans = Spans::new(cap_of(graph));
     for (number, variable) in graph.variables().iter().enumerate() {
         spans = spans.with_range(number, variable.range);
@@ -57,7 +71,9 @@ fn declared(graph: &Graph) -> Spans {
 }
 
 // The fault of a table read, if it has one.
-fn fault_of(graph: &Graph, spans: &Ascent<Spans>, lookup: &Lookup) -> Option<Fault> {
+fn fault_of(graph: &Graph, spans: &Ascent<Spans>, lookup: &Lookup) -> Option<Fault>
+    ensures { result ≡ fault_at graph.now.tables.items spans.now.rows.items lookup.now }
+{
     let span = spans.row(lookup.point)?.span(lookup.index);
     let size = graph.tables().get(lookup.table)?.size;
     let fault = Fault {
@@ -71,7 +87,10 @@ fn fault_of(graph: &Graph, spans: &Ascent<Spans>, lookup: &Lookup) -> Option<Fau
 }
 
 // What is known of a script, from below.
-pub fn known_from_below(heap: Global, graph: &Graph, spots: &[Spot]) -> Result<Known, Refusal> {
+pub fn known_from_below(heap: Global, graph: &Graph, spots: &[Spot]) -> Result<Known, Refusal>
+    ensures known { IfOk result (KnownBelow graph.now spots.now) }
+    ensures refusal { IsOkUnless result no_memory }
+{
     let by_span = ascend(heap, graph, declared(graph))?;
     let by_origin = ascend(heap, graph, Origins::DECLARED)?;
     let span = |spot: &Spot| Some(by_span.row(spot.point)?.span(spot.variable));

@@ -1,4 +1,8 @@
 // How far a variable can go at a point, as the independent solver says it: a lowest and a highest value.
+ghost use Rattle.std.specs.Prelude.{◌≡◌, ◌&&◌, replicate, Some};
+ghost use Rattle.below.specs.Spans.{end_of, at_most, end_moved, end_turned, end_text, span_of, is_bounded, is_index, span_moved, span_turned, left, up_to, from_on, joined, capped, only_zero, span_at, with_span, ordered, spans_way, span_text};
+ghost use Rattle.below.specs.declared.spans.End.TheVariants.{Below, Number, Above};
+
 use crate::ascent::Row;
 use kinds::Bound;
 use language::{Action, Range};
@@ -28,6 +32,8 @@ pub struct Spans {
 }
 
 impl From<Bound> for End {
+    ghost from_gives = { λ bound end. end ≡ end_of bound };
+
     fn from(bound: Bound) -> End {
         match bound {
             Bound::Least => End::Below,
@@ -39,7 +45,9 @@ impl From<Bound> for End {
 
 impl End {
     // Moved by a distance: only numbers move.
-    fn moved(self, distance: i64) -> End {
+    fn moved(self, distance: i64) -> End
+        ensures { result ≡ end_moved self distance }
+    {
         match self {
             End::Number(number) => End::Number(number.saturating_add(distance)),
             End::Below | End::Above => self,
@@ -47,7 +55,9 @@ impl End {
     }
 
     // On the other side of zero.
-    fn turned(self) -> End {
+    fn turned(self) -> End
+        ensures { result ≡ end_turned self }
+    {
         match self {
             End::Below => End::Above,
             End::Number(number) => End::Number(number.saturating_neg()),
@@ -57,6 +67,8 @@ impl End {
 }
 
 impl fmt::Display for End {
+    ghost output = { λ x. Some (end_text x) };
+
     fn fmt<W: fmt::Write>(&self, f: &mut fmt::Formatter<W>) -> fmt::Result {
         match *self {
             End::Below => f.write_str("-inf"),
@@ -73,7 +85,9 @@ impl Span {
     };
 
     // The span of a range.
-    fn of(range: Range) -> Span {
+    fn of(range: Range) -> Span
+        ensures { result ≡ span_of range }
+    {
         Span {
             low: End::Number(range.low),
             high: End::Number(range.high),
@@ -81,22 +95,30 @@ impl Span {
     }
 
     // Whether it has both ends.
-    pub fn is_bounded(self) -> bool {
+    pub fn is_bounded(self) -> bool
+        ensures { result ≡ is_bounded self }
+    {
         self.low != End::Below && self.high != End::Above
     }
 
     // Whether a number lies in it.
-    pub fn has(self, number: i64) -> bool {
+    pub fn has(self, number: i64) -> bool
+        ensures { result ≡ (at_most self.low (Number number) && at_most (Number number) self.high) }
+    {
         self.low <= End::Number(number) && End::Number(number) <= self.high
     }
 
     // Whether all of it lies in 0..size-1.
-    pub fn is_index(self, size: u32) -> bool {
+    pub fn is_index(self, size: u32) -> bool
+        ensures { result ≡ is_index self size }
+    {
         End::Number(0) <= self.low && self.high < End::Number(i64::from(size))
     }
 
     // All of it moved.
-    fn moved(self, distance: i64) -> Span {
+    fn moved(self, distance: i64) -> Span
+        ensures { result ≡ span_moved self distance }
+    {
         Span {
             low: self.low.moved(distance),
             high: self.high.moved(distance),
@@ -104,7 +126,9 @@ impl Span {
     }
 
     // All of it on the other side of zero.
-    fn turned(self) -> Span {
+    fn turned(self) -> Span
+        ensures { result ≡ span_turned self }
+    {
         Span {
             low: self.high.turned(),
             high: self.low.turned(),
@@ -112,12 +136,17 @@ impl Span {
     }
 
     // What is left of it, if anything is.
-    fn left(self) -> Option<Span> {
+    fn left(self) -> Option<Span>
+        ensures { result ≡ left self }
+    {
         (self.low <= self.high).then_some(self)
     }
 
     // The part up to an end.
-    fn up_to(self, end: End) -> Option<Span> {
+    #[tactic(auto, using(crate::proofs::Lowest::lower_is))]
+    fn up_to(self, end: End) -> Option<Span>
+        ensures { result ≡ up_to self end }
+    {
         Span {
             low: self.low,
             high: self.high.min(end),
@@ -126,7 +155,9 @@ impl Span {
     }
 
     // The part from an end on.
-    fn from_on(self, end: End) -> Option<Span> {
+    fn from_on(self, end: End) -> Option<Span>
+        ensures { result ≡ from_on self end }
+    {
         Span {
             low: self.low.max(end),
             high: self.high,
@@ -135,7 +166,10 @@ impl Span {
     }
 
     // The span of both.
-    fn joined(self, other: Span) -> Span {
+    #[tactic(auto, using(crate::proofs::Lowest::lower_is))]
+    fn joined(self, other: Span) -> Span
+        ensures { result ≡ joined self other }
+    {
         Span {
             low: self.low.min(other.low),
             high: self.high.max(other.high),
@@ -143,7 +177,9 @@ impl Span {
     }
 
     // Without the ends that lie beyond a cap.
-    fn capped(self, cap: i64) -> Span {
+    fn capped(self, cap: i64) -> Span
+        ensures { result ≡ capped self cap }
+    {
         let low_stays = End::Number(cap.saturating_neg()) <= self.low;
         let high_stays = self.high <= End::Number(cap);
         Span {
@@ -154,6 +190,8 @@ impl Span {
 }
 
 impl fmt::Display for Span {
+    ghost output = { λ x. Some (span_text x) };
+
     fn fmt<W: fmt::Write>(&self, f: &mut fmt::Formatter<W>) -> fmt::Result {
         write!(f, "{}..{}", self.low, self.high)
     }
@@ -161,7 +199,9 @@ impl fmt::Display for Span {
 
 impl Spans {
     // No variable yet.
-    pub fn new(cap: i64) -> Spans {
+    pub fn new(cap: i64) -> Spans
+        ensures { result ≡ record { spans = replicate 8 only_zero; cap = cap } }
+    {
         Spans {
             spans: [Span::ZERO; 8],
             cap,
@@ -169,25 +209,33 @@ impl Spans {
     }
 
     // The span of a variable.
-    pub fn span(&self, variable: usize) -> Span {
+    pub fn span(&self, variable: usize) -> Span
+        ensures { result ≡ span_at self.now variable }
+    {
         self.spans.get(variable).copied().unwrap_or(Span::ZERO)
     }
 
     // With another span for a variable.
-    fn with(mut self, variable: usize, span: Span) -> Spans {
-        if let Some(known) = self.spans.get_mut(variable) {
-            *known = span;
+    fn with(mut self, variable: usize, span: Span) -> Spans
+        ensures { result ≡ with_span self variable span }
+    {
+        if variable < self.spans.len() {
+            self.spans[variable] = span;
         }
         self
     }
 
     // With a variable anywhere in a range.
-    pub fn with_range(self, variable: usize, range: Range) -> Spans {
+    pub fn with_range(self, variable: usize, range: Range) -> Spans
+        ensures { result ≡ with_span self variable (span_of range) }
+    {
         self.with(variable, Span::of(range))
     }
 
     // Where the first variable is at most the other and so much more: none of the first lies higher than the other's highest lets it, and none of the other lower.
-    fn ordered(self, first: usize, other: usize, more: i64) -> Option<Spans> {
+    fn ordered(self, first: usize, other: usize, more: i64) -> Option<Spans>
+        ensures { result ≡ ordered self first other more }
+    {
         let low = self.span(first);
         let high = self.span(other);
         let lower = low.up_to(high.high.moved(more))?;
@@ -197,6 +245,8 @@ impl Spans {
 }
 
 impl Row for Spans {
+    ghost way = { spans_way };
+
     fn behind(self, action: Action) -> Option<Spans> {
         match action {
             Action::Skip => Some(self),
@@ -210,13 +260,10 @@ impl Row for Spans {
     }
 
     fn raise(&mut self, other: &Spans) -> bool {
-        let cap = self.cap;
-        let mut rose = false;
-        for (span, more) in self.spans.iter_mut().zip(other.spans.iter()) {
-            let joined = span.joined(*more).capped(cap);
-            rose |= joined != *span;
-            *span = joined;
+        let before = *self;
+        for k in 0..self.spans.len() {
+            self.spans[k] = self.spans[k].joined(other.spans[k]).capped(self.cap);
         }
-        rose
+        self.spans != before.spans
     }
 }

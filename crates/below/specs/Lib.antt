@@ -1,0 +1,5 @@
+pub mod Ascent
+pub mod Spans
+pub mod Origins
+pub mod Known
+pub mod Solving
