@@ -1,4 +1,10 @@
 // An independent solver: levels rise from the lowest until nothing changes.
+ghost use Rattle.std.specs.Prelude.{◌≡◌, ◌<◌, true, false, length, All, IfOk, IsOkUnless};
+ghost use Rattle.std.specs.Bool.{FalseIff};
+ghost use Rattle.refusal.specs.Reasons.{no_memory};
+ghost use Rattle.trials.specs.Levels.{up_to, moved as moved_level, added, reaches, level_at as level_of, holds as holds_at, part_level as level_of_part, given as given_by, Satisfied};
+ghost use Rattle.trials.specs.Ascent.{raised_to, turned, all_lowest, Ascends};
+
 use crate::levels::{Condition, Equation, Level, Part};
 use refusal::Refusal;
 use std::alloc::Global;
@@ -14,12 +20,16 @@ pub struct Ascent {
 }
 
 // The level of an unknown, the lowest where there is none.
-fn level_at(levels: &[Level], unknown: usize) -> Level {
+fn level_at(levels: &[Level], unknown: usize) -> Level
+    ensures { result ≡ level_of levels.now unknown }
+{
     levels.get(unknown).copied().unwrap_or(Level::Lowest)
 }
 
 // A level moved by a distance: only numbers move.
-fn moved(level: Level, distance: i64) -> Level {
+fn moved(level: Level, distance: i64) -> Level
+    ensures { result ≡ moved_level level distance }
+{
     match level {
         Level::Number(number) => Level::Number(number.saturating_add(distance)),
         Level::Lowest | Level::Highest => level,
@@ -27,7 +37,9 @@ fn moved(level: Level, distance: i64) -> Level {
 }
 
 // Whether the sum of two levels reaches a threshold: the lowest absorbs everything and reaches nothing.
-fn sum_reaches(level: Level, other: Level, threshold: Level) -> bool {
+fn sum_reaches(level: Level, other: Level, threshold: Level) -> bool
+    ensures { result ≡ reaches (added level other) threshold }
+{
     match (level, other) {
         (Level::Lowest, _) | (_, Level::Lowest) => false,
         (Level::Number(number), _) => threshold <= moved(other, number),
@@ -36,7 +48,9 @@ fn sum_reaches(level: Level, other: Level, threshold: Level) -> bool {
 }
 
 // Whether a condition holds.
-fn holds(condition: Condition, levels: &[Level]) -> bool {
+fn holds(condition: Condition, levels: &[Level]) -> bool
+    ensures { result ≡ holds_at levels.now condition }
+{
     match condition {
         Condition::Always => true,
         Condition::Reaches(unknown, threshold) => threshold <= level_at(levels, unknown),
@@ -55,7 +69,9 @@ fn holds(condition: Condition, levels: &[Level]) -> bool {
 }
 
 // The level of a part.
-fn part_level(part: Part, levels: &[Level]) -> Level {
+fn part_level(part: Part, levels: &[Level]) -> Level
+    ensures { result ≡ level_of_part levels.now part }
+{
     match part {
         Part::Fixed(level) => level,
         Part::Moved(unknown, distance) => moved(level_at(levels, unknown), distance),
@@ -63,7 +79,9 @@ fn part_level(part: Part, levels: &[Level]) -> Level {
 }
 
 // What an equation gives. A number above the cap becomes the highest.
-fn given(equation: &Equation, levels: &[Level], cap: i64) -> Level {
+fn given(equation: &Equation, levels: &[Level], cap: i64) -> Level
+    ensures { result ≡ given_by cap levels.now equation.now }
+{
     if !holds(equation.condition, levels) {
         return Level::Lowest;
     }
@@ -74,19 +92,31 @@ fn given(equation: &Equation, levels: &[Level], cap: i64) -> Level {
     }
 }
 
+// Whether a level is lower than another.
+fn is_lower(level: Level, other: Level) -> bool
+    ensures lower { result ≡ true → up_to other level ≡ false }
+    ensures higher { result ≡ false → up_to other level ≡ true }
+{
+    level < other
+}
+
 // Raises one unknown to a level, unless it is as high already. Says whether it rose.
-fn raise(levels: &mut [Level], unknown: usize, level: Level) -> bool {
-    match levels.get_mut(unknown) {
-        Some(known) if *known < level => {
-            *known = level;
-            true
-        }
-        _ => false,
+fn raise(levels: &mut [Level], unknown: usize, level: Level) -> bool
+    ensures raised { levels.new ≡ raised_to levels.old unknown level }
+    ensures rose { FalseIff result (unknown < length levels.old → up_to level (level_of levels.old unknown) ≡ true) }
+{
+    let rises = unknown < levels.len() && is_lower(levels[unknown], level);
+    if rises {
+        levels[unknown] = level;
     }
+    rises
 }
 
 // Raises each unknown to what its equations give. Says whether any rose.
-fn turn(equations: &[Equation], levels: &mut [Level], cap: i64) -> bool {
+fn turn(equations: &[Equation], levels: &mut [Level], cap: i64) -> bool
+    ensures turned { levels.new ≡ turned cap equations.now levels.old }
+    ensures rose { FalseIff result (All (Satisfied cap levels.old) equations.now) }
+{
     let mut rose = false;
     for equation in equations {
         let level = given(equation, levels, cap);
@@ -95,14 +125,29 @@ fn turn(equations: &[Equation], levels: &mut [Level], cap: i64) -> bool {
     rose
 }
 
+// Turns until no level rises, or makes the most turns. Says whether it came to rest.
+fn climb(equations: &[Equation], levels: &mut [Level], cap: i64) -> bool
+    ensures { Ascends cap equations.now levels.old levels.new result }
+{
+    for _made in 0..MOST_TURNS {
+        if !turn(equations, levels, cap) {
+            return true;
+        }
+    }
+    false
+}
+
 // Solves the equations of so many unknowns from below. No finite level of the least solution may lie above the cap.
 pub fn ascend(
     heap: Global,
     equations: &[Equation],
     count: usize,
     cap: i64,
-) -> Result<Ascent, Refusal> {
+) -> Result<Ascent, Refusal>
+    ensures ascent { IfOk result (λ ascent. Ascends cap equations.now (all_lowest count) ascent.levels.items ascent.rests) }
+    ensures refusal { IsOkUnless result no_memory }
+{
     let mut levels = vec![in heap; Level::Lowest; count]?;
-    let rests = (0..MOST_TURNS).any(|_| !turn(equations, levels.as_mut_slice(), cap));
+    let rests = climb(equations, levels.as_mut_slice(), cap);
     Ok(Ascent { levels, rests })
 }

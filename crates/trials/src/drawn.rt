@@ -1,5 +1,8 @@
 // Drawn books, solved by an analysis and by the independent solver.
-ghost use Rattle.std.specs.Prelude.{◌≡◌, true};
+ghost use Rattle.std.specs.Prelude.{◌≡◌, ◌≢◌, ◌+◌, ◌-◌, ◌^◌, ◌↔◌, min, true, cond, map, None, unwrap_or, OnOk, IfOk};
+ghost use Rattle.trials.specs.Counts.{Agrees, Keeps, more, with_level};
+ghost use Rattle.trials.specs.Shown.{Sound, SameLife};
+ghost use Rattle.trials.specs.declared.lives.Seen.{Seen as SeenOf};
 
 use crate::ascent::{Ascent, ascend};
 use crate::levels::{Level, Names, Plain, read_equations};
@@ -40,7 +43,9 @@ pub struct Report {
 
 impl Tally {
     // How many levels were found.
-    pub fn levels(&self) -> u32 {
+    pub fn levels(&self) -> u32
+        ensures { result ≡ min (self.now.lowest + self.now.numbers + self.now.highest) (2 ^ 32 - 1) }
+    {
         self.lowest
             .saturating_add(self.numbers)
             .saturating_add(self.highest)
@@ -48,20 +53,28 @@ impl Tally {
 
     // Whether the two solvers agree, and every life comes to the same.
     pub fn agrees(&self) -> bool
-        ensures { result ≡ true → (self.now.restless ≡ 0) × (self.now.other_levels ≡ 0) × (self.now.other_lives ≡ 0) }
+        ensures { (result ≡ true) ↔ Agrees self.now }
     {
         self.restless == 0 && self.other_levels == 0 && self.other_lives == 0
     }
 
     // Notes the seed of the first book at which something is wrong.
-    fn note(&mut self, seed: u32) {
+    fn note(&mut self, seed: u32)
+        ensures agrees { Agrees self.old → self.new ≡ self.old }
+        ensures differs { ¬ Agrees self.old → self.new ≡ record self.old { first_wrong = Some (unwrap_or self.old.first_wrong seed) } }
+    {
         if !self.agrees() && self.first_wrong.is_none() {
             self.first_wrong = Some(seed);
         }
     }
 
     // Counts a level, and whether the analysis shows another.
-    fn add_level(&mut self, level: Level, shown: Level) {
+    fn add_level(&mut self, level: Level, shown: Level)
+        ensures counted { self.new ≡ record (with_level level self.old) { other_levels = self.new.other_levels } }
+        ensures same { level ≡ shown → self.new.other_levels ≡ self.old.other_levels }
+        ensures other { level ≢ shown → self.new.other_levels ≡ more 1 self.old.other_levels }
+        ensures shown { self.new.other_levels ≡ 0 → (self.old.other_levels ≡ 0) × (level ≡ shown) }
+    {
         match level {
             Level::Lowest => self.lowest = self.lowest.saturating_add(1),
             Level::Number(_) => self.numbers = self.numbers.saturating_add(1),
@@ -73,7 +86,12 @@ impl Tally {
     }
 
     // Counts the levels of a book against a life of its analysis.
-    fn add_levels(&mut self, ascent: &Ascent, life: &Life) {
+    fn add_levels(&mut self, ascent: &Ascent, life: &Life)
+        ensures rests { self.new.restless ≡ cond ascent.now.rests self.old.restless (more 1 self.old.restless) }
+        ensures levels { self.new.other_levels ≡ 0 → ascent.now.levels.items ≡ map (λ (s : SeenOf). s.level) life.now.seen.items }
+        ensures kept { self.new.other_levels ≡ 0 → self.old.other_levels ≡ 0 }
+        ensures still { (self.new.books ≡ self.old.books) × (self.new.other_lives ≡ self.old.other_lives) × (self.new.first_wrong ≡ self.old.first_wrong) }
+    {
         if !ascent.rests {
             self.restless = self.restless.saturating_add(1);
         }
@@ -86,7 +104,13 @@ impl Tally {
     }
 
     // Counts a life that should be like the first.
-    fn add_life(&mut self, first: &Life, other: &Life) {
+    fn add_life(&mut self, first: &Life, other: &Life)
+        ensures counted { self.new ≡ record self.old { other_lives = self.new.other_lives } }
+        ensures same { Sound first.now × SameLife first.now other.now → self.new.other_lives ≡ self.old.other_lives }
+        ensures other { ¬ (Sound first.now × SameLife first.now other.now) → self.new.other_lives ≡ more 1 self.old.other_lives }
+        ensures shown { self.new.other_lives ≡ 0 → Sound first.now × SameLife first.now other.now }
+        ensures kept { self.new.other_lives ≡ 0 → self.old.other_lives ≡ 0 }
+    {
         if !first.is_sound() || *first != *other {
             self.other_lives = self.other_lives.saturating_add(1);
         }
@@ -99,7 +123,9 @@ fn solve<K: Plain, B: Book<K>>(
     book: &B,
     list: &mut [Entry<K>],
     tally: &mut Tally,
-) -> Result<(), Refusal> {
+) -> Result<(), Refusal>
+    ensures { OnOk result (Keeps tally.old tally.new × (tally.new.books ≡ more 1 tally.old.books) × (tally.new.first_wrong ≡ tally.old.first_wrong)) }
+{
     let count = book.count();
     let equations = read_equations(heap, book)?;
     // `as`: a book has at most 1,536 unknowns, and no `From` leads from `usize` to `i64`.
@@ -119,7 +145,11 @@ fn solve<K: Plain, B: Book<K>>(
 }
 
 // Solves the book of a seed.
-fn try_book<K: Plain + Drawn>(heap: Global, seed: u32, tally: &mut Tally) -> Result<(), Refusal> {
+fn try_book<K: Plain + Drawn>(heap: Global, seed: u32, tally: &mut Tally) -> Result<(), Refusal>
+    ensures books { OnOk result (tally.new.books ≡ more 1 tally.old.books) }
+    ensures agrees { OnOk result (Agrees tally.new → Agrees tally.old × (tally.new.first_wrong ≡ tally.old.first_wrong)) }
+    ensures differs { OnOk result (tally.new.first_wrong ≡ None → Agrees tally.new) }
+{
     // `as`: a remainder fits, and no `From` leads from `u32` to `usize`.
     let book = Chance::new(seed, (seed % SIZES) as usize);
     let mut list = blank::<K>(heap, 12)?;
@@ -129,7 +159,10 @@ fn try_book<K: Plain + Drawn>(heap: Global, seed: u32, tally: &mut Tally) -> Res
 }
 
 // Solves the drawn books of a kind.
-pub fn try_books<K: Plain + Drawn>(heap: Global) -> Result<Report, Refusal> {
+pub fn try_books<K: Plain + Drawn>(heap: Global) -> Result<Report, Refusal>
+    ensures books { IfOk result (λ report. report.tally.books ≡ BOOKS) }
+    ensures first { IfOk result (λ report. Agrees report.tally ↔ (report.tally.first_wrong ≡ None)) }
+{
     let mut tally = Tally::default();
     for seed in 0..BOOKS {
         try_book::<K>(heap, seed, &mut tally)?;

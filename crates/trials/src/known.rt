@@ -1,4 +1,7 @@
 // Systems whose rounds and values are known.
+ghost use Rattle.std.specs.Prelude.{OnOk};
+ghost use Rattle.trials.specs.Counts.{Checked};
+
 use crate::limits::Checks;
 use crate::lives::blank;
 use books::Book;
@@ -17,7 +20,9 @@ fn rounds<K: Kind, B: Book<K>>(heap: Global, book: &B) -> Result<Option<u16>, Re
 }
 
 // Each worked system over bounds settles in its rounds.
-pub fn try_systems(heap: Global, checks: &mut Checks) -> Result<(), Refusal> {
+pub fn try_systems(heap: Global, checks: &mut Checks) -> Result<(), Refusal>
+    ensures { OnOk result (Checked 6 checks.old checks.new) }
+{
     let systems = [
         System::Nothing,
         System::Copying,
@@ -33,13 +38,17 @@ pub fn try_systems(heap: Global, checks: &mut Checks) -> Result<(), Refusal> {
 }
 
 // The worked system over grades settles in its rounds.
-pub fn try_grade(heap: Global, checks: &mut Checks) -> Result<(), Refusal> {
+pub fn try_grade(heap: Global, checks: &mut Checks) -> Result<(), Refusal>
+    ensures { OnOk result (Checked 1 checks.old checks.new) }
+{
     checks.add(rounds(heap, &CopiedGrade)? == Some(CopiedGrade.rounds()));
     Ok(())
 }
 
 // The system over depths, -3 and -2 after 3 rounds.
-pub fn try_depths(heap: Global, checks: &mut Checks) -> Result<(), Refusal> {
+pub fn try_depths(heap: Global, checks: &mut Checks) -> Result<(), Refusal>
+    ensures { OnOk result (Checked 3 checks.old checks.new) }
+{
     let book = SinkingBook;
     let mut list = blank(heap, 2)?;
     let mut analysis = Analysis::set_up(&book, list.as_mut_slice())?;

@@ -1,4 +1,8 @@
 // Equations over plain levels, as the independent solver reads them out of a book.
+ghost use Rattle.std.specs.Prelude.{◌≡◌, ◌<◌, [], ◌++◌, map, length, slice_index_or, OnOk, IfOk, IsOkUnless};
+ghost use Rattle.refusal.specs.Reasons.{no_memory};
+ghost use Rattle.trials.specs.Readings.{Reading, bound_reading, grade_reading, part_of, condition_of, parts_of, equation_of, equations_from};
+
 use books::{Alternative, Book, Term, Terms, Test};
 use kinds::{Bound, Grade, Kind, NoWeight};
 use refusal::Refusal;
@@ -51,14 +55,19 @@ pub struct Names {
 pub trait Plain: Kind {
     const NAMES: Names;
 
+    ghost reading: { Reading Self Self.Weight };
+
     // The value as a level.
-    fn level(self) -> Level;
+    fn level(self) -> Level
+        ensures { result ≡ reading.level_of self };
 
     // How far a weight moves a number.
-    fn distance(weight: Self::Weight) -> i64;
+    fn distance(weight: Self::Weight) -> i64
+        ensures { result ≡ reading.distance_of weight };
 
     // The joint test.
-    fn together(unknown: usize, other: usize, threshold: Level) -> Condition;
+    fn together(unknown: usize, other: usize, threshold: Level) -> Condition
+        ensures { result ≡ reading.joint unknown other threshold };
 }
 
 impl Plain for Bound {
@@ -68,6 +77,8 @@ impl Plain for Bound {
         numbers: "whole",
         highest: "+inf",
     };
+
+    ghost reading = { bound_reading };
 
     fn level(self) -> Level {
         match self {
@@ -94,6 +105,8 @@ impl Plain for Grade {
         highest: "heard",
     };
 
+    ghost reading = { grade_reading };
+
     fn level(self) -> Level {
         match self {
             Grade::Unreached => Level::Lowest,
@@ -113,7 +126,9 @@ impl Plain for Grade {
 }
 
 // A term as a part.
-fn read_part<K: Plain>(term: Term<K, K::Weight>) -> Part {
+fn read_part<K: Plain>(term: Term<K, K::Weight>) -> Part
+    ensures { result ≡ part_of K.Plain.reading term }
+{
     match term {
         Term::Constant(value) => Part::Fixed(value.level()),
         Term::Shifted(unknown, weight) => Part::Moved(unknown, K::distance(weight)),
@@ -121,7 +136,9 @@ fn read_part<K: Plain>(term: Term<K, K::Weight>) -> Part {
 }
 
 // A test as a condition.
-fn read_condition<K: Plain>(test: Test<K>) -> Condition {
+fn read_condition<K: Plain>(test: Test<K>) -> Condition
+    ensures { result ≡ condition_of K.Plain.reading test }
+{
     match test {
         Test::Always => Condition::Always,
         Test::Single(unknown, threshold) => Condition::Reaches(unknown, threshold.level()),
@@ -130,7 +147,9 @@ fn read_condition<K: Plain>(test: Test<K>) -> Condition {
 }
 
 // The terms of an alternative as two parts. One term stands for both.
-fn read_parts<K: Plain>(terms: Terms<K, K::Weight>) -> (Part, Part) {
+fn read_parts<K: Plain>(terms: Terms<K, K::Weight>) -> (Part, Part)
+    ensures { result ≡ parts_of K.Plain.reading terms }
+{
     match terms {
         Terms::One(term) => {
             let part = read_part(term);
@@ -141,7 +160,9 @@ fn read_parts<K: Plain>(terms: Terms<K, K::Weight>) -> (Part, Part) {
 }
 
 // An alternative of an unknown as an equation.
-fn read_equation<K: Plain>(unknown: usize, choice: Alternative<K, K::Weight>) -> Equation {
+fn read_equation<K: Plain>(unknown: usize, choice: Alternative<K, K::Weight>) -> Equation
+    ensures { result ≡ equation_of K.Plain.reading unknown choice }
+{
     let (part, other) = read_parts(choice.terms);
     Equation {
         unknown,
@@ -156,7 +177,10 @@ fn add_equations<K: Plain, B: Book<K>>(
     all: &mut Vec<Equation>,
     book: &B,
     unknown: usize,
-) -> Result<(), Refusal> {
+) -> Result<(), Refusal>
+    ensures added { OnOk result (all.new.items ≡ all.old.items ++ map (equation_of K.Plain.reading unknown) (slice_index_or (B.Book.meaning book.now) unknown [])) }
+    ensures refusal { unknown < length (B.Book.meaning book.now) → IsOkUnless result no_memory }
+{
     // By number: a book answers for one alternative at a time.
     for number in 0..book.alternatives(unknown)? {
         all.push(read_equation(unknown, book.alternative(unknown, number)?))?;
@@ -168,7 +192,10 @@ fn add_equations<K: Plain, B: Book<K>>(
 pub fn read_equations<K: Plain, B: Book<K>>(
     heap: Global,
     book: &B,
-) -> Result<Vec<Equation>, Refusal> {
+) -> Result<Vec<Equation>, Refusal>
+    ensures read { IfOk result (λ all. all.items ≡ equations_from K.Plain.reading 0 (B.Book.meaning book.now)) }
+    ensures refusal { IsOkUnless result no_memory }
+{
     let mut all = Vec::new(heap);
     // By number: a book answers for one unknown at a time.
     for unknown in 0..book.count() {

@@ -1,5 +1,6 @@
 // What an analysis does at its limits.
-ghost use Rattle.std.specs.Prelude.{◌≡◌, ◌<◌, true, false, Some, None, MatchResult};
+ghost use Rattle.std.specs.Prelude.{◌≡◌, ◌≤◌, Some, None, OnOk, MatchResult};
+ghost use Rattle.trials.specs.Counts.{with_check, Checked};
 
 use crate::lives::look;
 use books::Entry;
@@ -33,8 +34,7 @@ impl Checks {
 
     // Counts a check. One that failed is never lost.
     pub fn add(&mut self, passed: bool)
-        ensures lost { passed ≡ false → 0 < self.new.failed }
-        ensures kept { passed ≡ true → self.new.failed ≡ self.old.failed }
+        ensures { (self.new ≡ with_check passed self.old) × (self.old.failed ≤ self.new.failed) }
     {
         self.made = self.made.saturating_add(1);
         if !passed {
@@ -67,7 +67,9 @@ fn refused<T: Drop>(answer: Result<T, Refusal>) -> Option<Reason>
 }
 
 // Lists of as many entries as there are unknowns, and of one less.
-pub fn try_lists(checks: &mut Checks) {
+pub fn try_lists(checks: &mut Checks)
+    ensures { Checked 6 checks.old checks.new }
+{
     let book = Chance::new(5, 12);
     let mut short = [MARK; 11];
     checks.add(refused(Analysis::set_up(&book, &mut short)) == Some(Reason::ListTooShort));
@@ -83,7 +85,9 @@ pub fn try_lists(checks: &mut Checks) {
 }
 
 // A longer list, whose tail stays as it was lent.
-pub fn try_tail(checks: &mut Checks) -> Result<(), Refusal> {
+pub fn try_tail(checks: &mut Checks) -> Result<(), Refusal>
+    ensures { OnOk result (Checked 3 checks.old checks.new) }
+{
     let book = Chance::new(5, 12);
     let mut list = [MARK; 14];
     let mut analysis = Analysis::set_up(&book, &mut list)?;
@@ -94,7 +98,9 @@ pub fn try_tail(checks: &mut Checks) -> Result<(), Refusal> {
 }
 
 // The largest budget, and one more, which changes nothing.
-pub fn try_budgets(heap: Global, checks: &mut Checks) -> Result<(), Refusal> {
+pub fn try_budgets(heap: Global, checks: &mut Checks) -> Result<(), Refusal>
+    ensures { OnOk result (Checked 8 checks.old checks.new) }
+{
     let book = Chance::new(12, 12);
     let mut list = [MARK; 12];
     let mut analysis = Analysis::set_up(&book, &mut list)?;
@@ -117,7 +123,9 @@ pub fn try_budgets(heap: Global, checks: &mut Checks) -> Result<(), Refusal> {
 }
 
 // The last unknown, and one past it.
-pub fn try_unknowns(checks: &mut Checks) -> Result<(), Refusal> {
+pub fn try_unknowns(checks: &mut Checks) -> Result<(), Refusal>
+    ensures { OnOk result (Checked 4 checks.old checks.new) }
+{
     let book = Chance::new(12, 12);
     let mut list = [MARK; 14];
     let analysis = Analysis::set_up(&book, &mut list)?;

@@ -2,6 +2,8 @@
 // The counts of levels that it prints are those of the independent solver.
 #![tactic(auto)]
 
+ghost use Rattle.std.specs.Prelude.{◌≡◌};
+
 mod ascent;
 mod drawn;
 mod known;
@@ -26,13 +28,17 @@ enum Trouble {
 }
 
 impl From<Refusal> for Trouble {
-    fn from(refusal: Refusal) -> Trouble {
+    fn from(refusal: Refusal) -> Trouble
+        ensures { result ≡ Trouble.Refused refusal }
+    {
         Trouble::Refused(refusal)
     }
 }
 
 impl From<io::Error> for Trouble {
-    fn from(error: io::Error) -> Trouble {
+    fn from(error: io::Error) -> Trouble
+        ensures { result ≡ Trouble.Printing error }
+    {
         Trouble::Printing(error)
     }
 }

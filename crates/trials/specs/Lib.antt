@@ -1,0 +1,5 @@
+pub mod Levels
+pub mod Readings
+pub mod Ascent
+pub mod Counts
+pub mod Shown
