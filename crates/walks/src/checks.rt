@@ -1,5 +1,6 @@
 // Checks that hold or fail.
-ghost use Rattle.std.specs.Prelude.{◌≡◌, ◌<◌, true, false, Some, None, MatchResult};
+ghost use Rattle.std.specs.Prelude.{◌≡◌, ◌↔◌, true, Some, None, MatchResult};
+ghost use Rattle.walks.specs.Counts.{with_check};
 
 use refusal::{Reason, Refusal};
 use std::fmt;
@@ -26,8 +27,7 @@ impl Checks {
 
     // Counts a check. One that failed is never lost.
     pub fn add(&mut self, passed: bool)
-        ensures lost { passed ≡ false → 0 < self.new.failed }
-        ensures kept { passed ≡ true → self.new.failed ≡ self.old.failed }
+        ensures { self.new ≡ with_check passed self.old }
     {
         self.made = self.made.saturating_add(1);
         if !passed {
@@ -37,7 +37,7 @@ impl Checks {
 
     // Whether all hold.
     pub fn hold(&self) -> bool
-        ensures { result ≡ true → self.now.failed ≡ 0 }
+        ensures { (result ≡ true) ↔ (self.now.failed ≡ 0) }
     {
         self.failed == 0
     }

@@ -1,4 +1,7 @@
 // Scripts that are drawn.
+ghost use Rattle.std.specs.Prelude.{◌≡◌, [], ◌+◌, ◌<◌, ◌≤◌, ◌≤ℤ◌, pos, negsuc, vec_len, string_len, codes, slice_get, MatchOption, OnOk, IfOk};
+ghost use Rattle.walks.specs.Drafts.{Writes, Adds, Opens};
+
 use crate::dice::Dice;
 use refusal::Refusal;
 use std::alloc::Global;
@@ -34,11 +37,13 @@ struct Draft {
     text: String,
     variables: u32,
     tables: u32,
-    open: Vec<Block>,
+    blocks: Vec<Block>,
 }
 
 // The name under a number.
-fn name_at(names: &[&'static str], number: u32) -> &'static str {
+fn name_at(names: &[&'static str], number: u32) -> &'static str
+    ensures { MatchOption (slice_get names.now number) (result.now ≡ codes "a") (λ name. result ≡ name) }
+{
     // `as`: no `From` leads from `u32` to `usize`.
     match names.get(number as usize) {
         Some(name) => *name,
@@ -48,7 +53,10 @@ fn name_at(names: &[&'static str], number: u32) -> &'static str {
 
 impl Draft {
     // No text yet.
-    fn new(heap: Global, seed: u32) -> Draft {
+    fn new(heap: Global, seed: u32) -> Draft
+        ensures names { (0 < result.variables) × (result.variables ≤ 4) × (result.tables ≤ 2) }
+        ensures empty { (string_len result.text ≡ 0) × (result.blocks.items ≡ []) }
+    {
         let mut dice = Dice::new(seed);
         let variables = 1 + dice.roll(4);
         let tables = dice.roll(4).min(2);
@@ -57,22 +65,29 @@ impl Draft {
             text: String::new(heap),
             variables,
             tables,
-            open: Vec::new(heap),
+            blocks: Vec::new(heap),
         }
     }
 
     // A number as it may stand for itself.
-    fn constant(&mut self) -> i64 {
+    fn constant(&mut self) -> i64
+        ensures value { (negsuc 1 ≤ℤ result) × (result ≤ℤ pos 7) }
+        ensures still { self.new ≡ record self.old { dice = self.new.dice } }
+    {
         self.dice.between(-2, 7)
     }
 
     // A variable.
-    fn variable(&mut self) -> &'static str {
+    fn variable(&mut self) -> &'static str
+        ensures { self.new ≡ record self.old { dice = self.new.dice } }
+    {
         name_at(&VARIABLES, self.dice.roll(self.variables))
     }
 
     // Adds a range.
-    fn add_range(&mut self) -> Result<(), Refusal> {
+    fn add_range(&mut self) -> Result<(), Refusal>
+        ensures { OnOk result (Adds self.old self.new) }
+    {
         let low = self.constant();
         let high = low.saturating_add(self.dice.between(0, 11));
         write!(self.text, "{low}..{high}")?;
@@ -80,7 +95,9 @@ impl Draft {
     }
 
     // Adds the variables. Some have one start value.
-    fn add_variables(&mut self) -> Result<(), Refusal> {
+    fn add_variables(&mut self) -> Result<(), Refusal>
+        ensures { OnOk result (Adds self.old self.new) }
+    {
         for number in 0..self.variables {
             let name = name_at(&VARIABLES, number);
             let low = self.constant();
@@ -92,7 +109,9 @@ impl Draft {
     }
 
     // Adds the tables.
-    fn add_tables(&mut self) -> Result<(), Refusal> {
+    fn add_tables(&mut self) -> Result<(), Refusal>
+        ensures { OnOk result (Adds self.old self.new) }
+    {
         for number in 0..self.tables {
             let name = name_at(&TABLES, number);
             let size = 2 + self.dice.roll(11);
@@ -104,7 +123,9 @@ impl Draft {
     }
 
     // Adds a table read, or a constant where there is no table.
-    fn add_read(&mut self) -> Result<(), Refusal> {
+    fn add_read(&mut self) -> Result<(), Refusal>
+        ensures { OnOk result (Adds self.old self.new) }
+    {
         let index = self.variable();
         match self.tables {
             0 => write!(self.text, "{}", self.dice.between(-3, 3))?,
@@ -117,7 +138,9 @@ impl Draft {
     }
 
     // Adds a right side.
-    fn add_side(&mut self) -> Result<(), Refusal> {
+    fn add_side(&mut self) -> Result<(), Refusal>
+        ensures { OnOk result (Adds self.old self.new) }
+    {
         let name = self.variable();
         let constant = self.constant();
         match self.dice.roll(13) {
@@ -139,22 +162,33 @@ impl Draft {
         Ok(())
     }
 
-    // Adds a condition, between two variables where there are two.
-    fn add_condition(&mut self) -> Result<Condition, Refusal> {
+    // Adds what a variable is compared with: a constant, or another variable where there are two.
+    fn add_bound(&mut self, variable: u32) -> Result<(), Refusal>
+        ensures { OnOk result (Adds self.old self.new) }
+    {
+        if self.variables < 2 || self.dice.happens(2) {
+            let constant = self.constant();
+            write!(self.text, "{constant}")?;
+            return Ok(());
+        }
+        let distance = 1 + self.dice.roll(self.variables.saturating_sub(1));
+        let other = variable
+            .saturating_add(distance)
+            .checked_rem(self.variables);
+        self.text.push_str(name_at(&VARIABLES, other.unwrap_or(0)))?;
+        Ok(())
+    }
+
+    // Adds a condition.
+    fn add_condition(&mut self) -> Result<Condition, Refusal>
+        ensures added { OnOk result (Adds self.old self.new) }
+        ensures variable { IfOk result (λ condition. 0 < self.old.variables → condition.variable < self.old.variables) }
+    {
         let variable = self.dice.roll(self.variables);
         let name = name_at(&VARIABLES, variable);
         let order = self.dice.roll(4);
         write!(self.text, "{name} {} ", name_at(&OPERATORS, order))?;
-        if self.variables < 2 || self.dice.happens(2) {
-            let constant = self.constant();
-            write!(self.text, "{constant}")?;
-        } else {
-            let distance = 1 + self.dice.roll(self.variables.saturating_sub(1));
-            let other = variable
-                .saturating_add(distance)
-                .checked_rem(self.variables);
-            self.text.push_str(name_at(&VARIABLES, other.unwrap_or(0)))?;
-        }
+        self.add_bound(variable)?;
         Ok(Condition {
             variable,
             is_below: order < 2,
@@ -162,7 +196,9 @@ impl Draft {
     }
 
     // Adds an assignment.
-    fn add_assignment(&mut self) -> Result<(), Refusal> {
+    fn add_assignment(&mut self) -> Result<(), Refusal>
+        ensures { OnOk result (Adds self.old self.new) }
+    {
         let name = self.variable();
         write!(self.text, "{name} := ")?;
         self.add_side()?;
@@ -171,25 +207,31 @@ impl Draft {
     }
 
     // Opens a loop.
-    fn open_loop(&mut self) -> Result<(), Refusal> {
+    fn open_loop(&mut self) -> Result<(), Refusal>
+        ensures { OnOk result (Opens self.old self.new) }
+    {
         self.text.push_str("while ")?;
         let condition = self.add_condition()?;
         self.text.push_str(" {\n")?;
-        self.open.push(Block::Loop(condition))?;
+        self.blocks.push(Block::Loop(condition))?;
         Ok(())
     }
 
     // Opens the first block of a choice.
-    fn open_choice(&mut self) -> Result<(), Refusal> {
+    fn open_choice(&mut self) -> Result<(), Refusal>
+        ensures { OnOk result (Opens self.old self.new) }
+    {
         self.text.push_str("if ")?;
         self.add_condition()?;
         self.text.push_str(" {\n")?;
-        self.open.push(Block::First)?;
+        self.blocks.push(Block::First)?;
         Ok(())
     }
 
     // Counts the variable of a condition, mostly so that the condition fails in the end.
-    fn add_count(&mut self, condition: Condition) -> Result<(), Refusal> {
+    fn add_count(&mut self, condition: Condition) -> Result<(), Refusal>
+        ensures { OnOk result (Adds self.old self.new) }
+    {
         let name = name_at(&VARIABLES, condition.variable);
         let sign = if condition.is_below != self.dice.happens(6) {
             "+"
@@ -202,7 +244,9 @@ impl Draft {
     }
 
     // Counts any variable up or down, and hears that of a condition anew.
-    fn add_hearing(&mut self, condition: Condition) -> Result<(), Refusal> {
+    fn add_hearing(&mut self, condition: Condition) -> Result<(), Refusal>
+        ensures { OnOk result (Adds self.old self.new) }
+    {
         let counted = self.variable();
         let sign = if self.dice.happens(2) { "+" } else { "-" };
         let step = self.dice.roll(4);
@@ -215,7 +259,9 @@ impl Draft {
     }
 
     // Adds what a loop does last: mostly something by which its condition may fail.
-    fn add_last(&mut self, condition: Condition) -> Result<(), Refusal> {
+    fn add_last(&mut self, condition: Condition) -> Result<(), Refusal>
+        ensures { OnOk result (Adds self.old self.new) }
+    {
         match self.dice.roll(8) {
             0 => Ok(()),
             1..=3 => self.add_hearing(condition),
@@ -224,7 +270,9 @@ impl Draft {
     }
 
     // Ends a block.
-    fn end_block(&mut self, block: Block) -> Result<(), Refusal> {
+    fn end_block(&mut self, block: Block) -> Result<(), Refusal>
+        ensures { OnOk result (Adds self.old self.new) }
+    {
         if let Block::Loop(condition) = block {
             self.add_last(condition)?;
         }
@@ -233,23 +281,27 @@ impl Draft {
     }
 
     // Ends the innermost block, maybe with an `else` behind it.
-    fn close_block(&mut self, block: Block) -> Result<(), Refusal> {
+    fn close_block(&mut self, block: Block) -> Result<(), Refusal>
+        ensures { OnOk result (Writes self.old self.new × (vec_len self.new.blocks ≤ vec_len self.old.blocks + 1)) }
+    {
         self.end_block(block)?;
         if matches!(block, Block::First) && self.dice.happens(2) {
             self.text.push_str(" else {")?;
-            self.open.push(Block::Other)?;
+            self.blocks.push(Block::Other)?;
         }
         self.text.push('\n')?;
         Ok(())
     }
 
     // Adds one step: an assignment, or a brace.
-    fn add_step(&mut self) -> Result<(), Refusal> {
-        let depth = self.open.len();
+    fn add_step(&mut self) -> Result<(), Refusal>
+        ensures { OnOk result (Writes self.old self.new × (vec_len self.old.blocks ≤ MOST_OPEN → vec_len self.new.blocks ≤ MOST_OPEN)) }
+    {
+        let depth = self.blocks.len();
         match self.dice.roll(12) {
             0 | 1 if depth < MOST_OPEN => self.open_loop(),
             2 | 3 if depth < MOST_OPEN => self.open_choice(),
-            4 | 5 => match self.open.pop() {
+            4 | 5 => match self.blocks.pop() {
                 Some(block) => self.close_block(block),
                 None => self.add_assignment(),
             },
@@ -258,7 +310,9 @@ impl Draft {
     }
 
     // Adds so many steps.
-    fn add_steps(&mut self, steps: u32) -> Result<(), Refusal> {
+    fn add_steps(&mut self, steps: u32) -> Result<(), Refusal>
+        ensures { OnOk result (Writes self.old self.new × (vec_len self.old.blocks ≤ MOST_OPEN → vec_len self.new.blocks ≤ MOST_OPEN)) }
+    {
         for _ in 0..steps {
             self.add_step()?;
         }
@@ -266,9 +320,11 @@ impl Draft {
     }
 
     // Ends all blocks.
-    fn end_all(&mut self) -> Result<(), Refusal> {
-        for _ in 0..self.open.len() {
-            if let Some(block) = self.open.pop() {
+    fn end_all(&mut self) -> Result<(), Refusal>
+        ensures { OnOk result (Writes self.old self.new × (vec_len self.new.blocks ≡ 0)) }
+    {
+        for _ in 0..self.blocks.len() {
+            if let Some(block) = self.blocks.pop() {
                 self.end_block(block)?;
             }
         }

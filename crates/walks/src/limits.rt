@@ -1,7 +1,11 @@
 // What sessions do at their limits.
+ghost use Rattle.std.specs.Prelude.{◌≡◌, ◌↔◌, true, OnOk, IfOk};
+ghost use Rattle.std.specs.Option.{option_copied};
+ghost use Rattle.walks.specs.Counts.{Checked};
+ghost use Rattle.walks.specs.Answers.{has_findings as counts_findings, RefusedFor};
+
 use crate::checks::{Checks, refused};
 use crate::told::{NO_FINDING, blank};
-use below::Fault;
 use books::{Book, Entry};
 use kinds::{Bound, Grade};
 use reader::graph::Graph;
@@ -42,7 +46,9 @@ const MARK: Entry<Bound> = Entry {
 };
 
 // Whether nothing was written to this entry.
-fn is_untouched(finding: &Finding) -> bool {
+fn is_untouched(finding: &Finding) -> bool
+    ensures { (result ≡ true) ↔ (finding.now ≡ NO_FINDING) }
+{
     *finding == NO_FINDING
 }
 
@@ -50,14 +56,18 @@ fn is_untouched(finding: &Finding) -> bool {
 fn settled<'a>(
     graph: &'a Graph,
     list: &'a mut [Entry<Bound>],
-) -> Result<Session<'a, Bound, BoundBook<'a>>, Refusal> {
+) -> Result<Session<'a, Bound, BoundBook<'a>>, Refusal>
+    ensures { IfOk result (λ session. session.book.graph.now ≡ graph.now) }
+{
     let mut session = Session::set_up(BoundBook::new(graph), list)?;
     session.run(MOST_ROUNDS)?;
     Ok(session)
 }
 
 // Points and variables that are there, and the first that are not.
-pub fn try_spots(heap: Global, checks: &mut Checks) -> Result<(), Refusal> {
+pub fn try_spots(heap: Global, checks: &mut Checks) -> Result<(), Refusal>
+    ensures { OnOk result (Checked 15 checks.old checks.new) }
+{
     let graph = read(heap, READS.as_bytes())?;
     checks.add(graph.points() == POINTS && graph.variables().len() == VARIABLES);
     let mut list = [MARK; UNKNOWNS];
@@ -83,7 +93,9 @@ pub fn try_spots(heap: Global, checks: &mut Checks) -> Result<(), Refusal> {
 }
 
 // Questions before a run, behind a refused one, behind a run and behind a restart.
-pub fn try_unsettled(heap: Global, checks: &mut Checks) -> Result<(), Refusal> {
+pub fn try_unsettled(heap: Global, checks: &mut Checks) -> Result<(), Refusal>
+    ensures { OnOk result (Checked 16 checks.old checks.new) }
+{
     let graph = read(heap, READS.as_bytes())?;
     let mut list = [MARK; UNKNOWNS];
     let mut findings = [NO_FINDING; FINDINGS];
@@ -111,7 +123,9 @@ pub fn try_unsettled(heap: Global, checks: &mut Checks) -> Result<(), Refusal> {
 }
 
 // Grades before a run.
-pub fn try_unsettled_grades(heap: Global, checks: &mut Checks) -> Result<(), Refusal> {
+pub fn try_unsettled_grades(heap: Global, checks: &mut Checks) -> Result<(), Refusal>
+    ensures { OnOk result (Checked 6 checks.old checks.new) }
+{
     let graph = read(heap, READS.as_bytes())?;
     let book = GradeBook::new(&graph);
     let mut list = blank(heap, &book)?;
@@ -128,7 +142,9 @@ pub fn try_unsettled_grades(heap: Global, checks: &mut Checks) -> Result<(), Ref
 }
 
 // A script with no variables is settled from the start.
-pub fn try_nothing(heap: Global, checks: &mut Checks) -> Result<(), Refusal> {
+pub fn try_nothing(heap: Global, checks: &mut Checks) -> Result<(), Refusal>
+    ensures { OnOk result (Checked 5 checks.old checks.new) }
+{
     let graph = read(heap, b"table cal[4] = 0..9;")?;
     let mut list: [Entry<Bound>; 0] = [];
     let mut findings: [Finding; 0] = [];
@@ -144,7 +160,9 @@ pub fn try_nothing(heap: Global, checks: &mut Checks) -> Result<(), Refusal> {
 }
 
 // Lists for findings: of as many entries as there are findings, of one less, and of more.
-pub fn try_findings(heap: Global, checks: &mut Checks) -> Result<(), Refusal> {
+pub fn try_findings(heap: Global, checks: &mut Checks) -> Result<(), Refusal>
+    ensures { OnOk result (Checked 9 checks.old checks.new) }
+{
     let graph = read(heap, READS.as_bytes())?;
     let mut list = [MARK; UNKNOWNS];
     let session = settled(&graph, &mut list)?;
@@ -165,7 +183,9 @@ pub fn try_findings(heap: Global, checks: &mut Checks) -> Result<(), Refusal> {
 }
 
 // Lists for entries: of as many as there are unknowns, of one less, and of more.
-pub fn try_lists(heap: Global, checks: &mut Checks) -> Result<(), Refusal> {
+pub fn try_lists(heap: Global, checks: &mut Checks) -> Result<(), Refusal>
+    ensures { OnOk result (Checked 9 checks.old checks.new) }
+{
     let graph = read(heap, READS.as_bytes())?;
     let book = BoundBook::new(&graph);
     checks.add(book.count() == UNKNOWNS);
@@ -185,7 +205,9 @@ pub fn try_lists(heap: Global, checks: &mut Checks) -> Result<(), Refusal> {
 }
 
 // Whether an answer is of so many findings.
-fn has_findings(answer: Option<&Result<ScriptAnswer, Refusal>>, count: usize) -> bool {
+fn has_findings(answer: Option<&Result<ScriptAnswer, Refusal>>, count: usize) -> bool
+    ensures { result ≡ counts_findings count (option_copied answer.entry) }
+{
     match answer {
         Some(Ok(ScriptAnswer::Findings(findings))) => findings.len() == count,
         _ => false,
@@ -193,7 +215,9 @@ fn has_findings(answer: Option<&Result<ScriptAnswer, Refusal>>, count: usize) ->
 }
 
 // Whether an answer is a refusal for this reason.
-fn is_refused(answer: Option<&Result<ScriptAnswer, Refusal>>, reason: Reason) -> bool {
+fn is_refused(answer: Option<&Result<ScriptAnswer, Refusal>>, reason: Reason) -> bool
+    ensures { (result ≡ true) ↔ RefusedFor reason (option_copied answer.entry) }
+{
     match answer {
         Some(Err(refusal)) => refusal.reason == reason,
         _ => false,
@@ -201,7 +225,9 @@ fn is_refused(answer: Option<&Result<ScriptAnswer, Refusal>>, reason: Reason) ->
 }
 
 // The same calls, made in a row.
-pub fn try_calls(heap: Global, checks: &mut Checks) -> Result<(), Refusal> {
+pub fn try_calls(heap: Global, checks: &mut Checks) -> Result<(), Refusal>
+    ensures { OnOk result (Checked 9 checks.old checks.new) }
+{
     let graph = read(heap, READS.as_bytes())?;
     let calls = [
         ScriptCall::Findings(FINDINGS),

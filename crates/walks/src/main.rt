@@ -2,6 +2,8 @@
 // What it prints is what the independent solver found and what was seen of runs; of sessions it prints the rounds.
 #![tactic(auto)]
 
+ghost use Rattle.std.specs.Prelude.{◌≡◌};
+
 mod checks;
 mod dice;
 mod drafts;
@@ -47,13 +49,17 @@ enum Trouble {
 }
 
 impl From<Refusal> for Trouble {
-    fn from(refusal: Refusal) -> Trouble {
+    fn from(refusal: Refusal) -> Trouble
+        ensures { result ≡ Trouble.Refused refusal }
+    {
         Trouble::Refused(refusal)
     }
 }
 
 impl From<io::Error> for Trouble {
-    fn from(error: io::Error) -> Trouble {
+    fn from(error: io::Error) -> Trouble
+        ensures { result ≡ Trouble.Printing error }
+    {
         Trouble::Printing(error)
     }
 }

@@ -1,4 +1,8 @@
 // A script that is tried.
+ghost use Rattle.std.specs.Prelude.{◌≡◌, ◌↔◌, vec_len, IsNone, IfOk};
+ghost use Rattle.below.specs.Known.{all_spots, AtOne};
+ghost use Rattle.below.specs.Solving.{KnownBelow};
+
 use crate::strolls::{Course, Seen, seen_of};
 use crate::told::{Told, known_by_sessions};
 use below::{Difference, Known, known_from_below, spots_of};
@@ -26,7 +30,11 @@ struct Ending<'a>(&'a Trial);
 
 impl Trial {
     // Tries the script of a text. Its runs are drawn from a seed.
-    pub fn new(heap: Global, text: &[u8], seed: u32, course: Course) -> Result<Trial, Refusal> {
+    pub fn new(heap: Global, text: &[u8], seed: u32, course: Course) -> Result<Trial, Refusal>
+        ensures found { IfOk result (λ trial. KnownBelow trial.graph (all_spots trial.graph.points (vec_len trial.graph.variables)) trial.found) }
+        ensures told { IfOk result (λ trial. trial.told.known.variables ≡ vec_len trial.graph.variables) }
+        ensures runs { IfOk result (λ trial. trial.seen.runs ≡ course.runs) }
+    {
         let graph = reader::read(heap, text)?;
         let spots = spots_of(heap, &graph)?;
         let found = known_from_below(heap, &graph, &spots)?;
@@ -41,7 +49,9 @@ impl Trial {
     }
 
     // Where sessions tell something else than the independent solver found.
-    pub fn difference(&self) -> Option<Difference> {
+    pub fn difference(&self) -> Option<Difference>
+        ensures { IsNone result ↔ AtOne self.now.found self.now.told.known }
+    {
         self.found.difference(&self.told.known)
     }
 }

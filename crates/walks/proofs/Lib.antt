@@ -1,0 +1,4 @@
+pub mod Checking
+pub mod Between
+pub mod Looking
+pub mod Asking
