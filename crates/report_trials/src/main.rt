@@ -2,6 +2,9 @@
 // Then it prints the reports of some scripts in full. Each report is held against a solver that iterates from below.
 #![tactic(auto)]
 
+ghost use Rattle.std.specs.Prelude.{◌≡◌};
+ghost use Rattle.report_trials.specs.declared.Trouble.TheVariants.{Refused, Printing};
+
 mod buffers;
 mod scripts;
 mod texts;
@@ -26,12 +29,16 @@ enum Trouble {
 }
 
 impl From<Refusal> for Trouble {
+    ghost from_gives = { λ refusal trouble. trouble ≡ Refused refusal };
+
     fn from(refusal: Refusal) -> Trouble {
         Trouble::Refused(refusal)
     }
 }
 
 impl From<io::Error> for Trouble {
+    ghost from_gives = { λ error trouble. trouble ≡ Printing error };
+
     fn from(error: io::Error) -> Trouble {
         Trouble::Printing(error)
     }
@@ -79,9 +86,15 @@ fn try_buffers(rt: &HostRuntime, name: &str, text: &[u8], sizes: &[usize]) -> Re
     println!(rt; "buffers for {name}, {} bytes", report.len())?;
     for size in sizes {
         let lent = &Lent::to(rt.alloc(), &made, *size)?;
-        println!(rt; "  {size} bytes, write: {}", Beside { lent, report })?;
+        println!(rt;
+            "  {size} bytes, write: {}",
+            Beside { lent, report }.outcome()
+        )?;
         let lent = &Lent::with_budget(rt.alloc(), &graph, MOST_ROUNDS, *size)?;
-        println!(rt; "  {size} bytes, write_report: {}", Beside { lent, report })?;
+        println!(rt;
+            "  {size} bytes, write_report: {}",
+            Beside { lent, report }.outcome()
+        )?;
     }
     Ok(())
 }
@@ -95,7 +108,7 @@ fn try_budgets(rt: &HostRuntime, script: &Script, asked: &[(usize, usize)]) -> R
         let lent = &Lent::with_budget(rt.alloc(), &graph, *budget, *size)?;
         println!(rt;
             "  {budget} rounds, {size} bytes: {}",
-            Beside { lent, report }
+            Beside { lent, report }.outcome()
         )?;
     }
     Ok(())

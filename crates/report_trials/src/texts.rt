@@ -1,5 +1,7 @@
 // Scripts at the limits of the language, and behind them.
-ghost use Rattle.std.specs.Prelude.{◌≡◌, vec_len, IfOk};
+ghost use Rattle.std.specs.Prelude.{◌≡◌, map, flat_map, string_bytes, MatchResult};
+ghost use Rattle.refusal.specs.Reasons.{no_memory};
+ghost use Rattle.report_trials.specs.Limits.{padded_text, number_script, assignment_script, declaration, in_turn, large_script};
 
 use refusal::Refusal;
 use std::alloc::Global;
@@ -19,42 +21,57 @@ const NAMES: [&str; 8] = [
 
 // A script of this many bytes, with blanks at its end.
 pub fn padded(heap: Global, script: &str, size: usize) -> Result<Vec<u8>, Refusal>
-    ensures { IfOk result (λ text. vec_len text ≡ size) }
+    ensures { MatchResult result (λ text. text.items ≡ padded_text script.now size) (λ e. e ≡ no_memory) }
 {
-    let mut text = script.as_bytes().to_vec(heap)?;
+    let mut text = Vec::from_slice(heap, script.as_bytes())?;
     text.resize(size, b' ')?;
     Ok(text)
 }
 
 // A script with this number at both ends of a range, and as what is added and taken away.
-pub fn with_number(heap: Global, number: u32) -> Result<String, Refusal> {
+pub fn with_number(heap: Global, number: u32) -> Result<String, Refusal>
+    ensures { MatchResult result (λ text. string_bytes text ≡ number_script number) (λ e. e ≡ no_memory) }
+{
     Ok(format!(in heap; "var i = -{number}..{number};\ni := i + {number};\ni := i - {number};\n")?)
 }
 
 // A script of so many assignments.
-pub fn assignments(heap: Global, count: usize) -> Result<String, Refusal> {
+pub fn assignments(heap: Global, count: usize) -> Result<String, Refusal>
+    ensures { MatchResult result (λ text. string_bytes text ≡ assignment_script count) (λ e. e ≡ no_memory) }
+{
     let mut text = String::from_str(heap, "var i = 0..3;\n")?;
-    for _ in 0..count {
+    for _number in 0..count {
         text.push_str("i := i + 1;\n")?;
     }
     Ok(text)
 }
 
-// The declarations of eight variables.
-fn eight_variables(heap: Global) -> Result<String, Refusal> {
+// The declarations of these variables.
+fn declarations(heap: Global, names: &[&str]) -> Result<String, Refusal>
+    ensures { MatchResult result (λ text. string_bytes text ≡ flat_map declaration (map (λ name. name.now) names.now)) (λ e. e ≡ no_memory) }
+{
     let mut text = String::new(heap);
-    for name in NAMES {
+    for name in names {
         writeln!(text, "var {name} = -2147483647..2147483647;")?;
     }
     Ok(text)
 }
 
+// The variable that an assignment takes, one of the eight in turn.
+fn variable(number: usize) -> &'static str
+    ensures { result.now ≡ in_turn (map (λ name. name.now) NAMES) number }
+{
+    NAMES[number % 8]
+}
+
 // A script of eight variables and so many assignments, each of which moves the last one's value further.
-pub fn large_numbers(heap: Global, count: usize) -> Result<String, Refusal> {
-    let mut text = eight_variables(heap)?;
+pub fn large_numbers(heap: Global, count: usize) -> Result<String, Refusal>
+    ensures { MatchResult result (λ text. string_bytes text ≡ large_script (map (λ name. name.now) NAMES) count) (λ e. e ≡ no_memory) }
+{
+    let mut text = declarations(heap, &NAMES)?;
     for number in 0..count {
-        let last = NAMES[number % 8];
-        let next = NAMES[(number + 1) % 8];
+        let last = variable(number);
+        let next = variable(number + 1);
         writeln!(text, "{next} := {last} - 2147483647;")?;
     }
     Ok(text)

@@ -1,0 +1,5 @@
+pub mod Lent
+pub mod Limits
+pub mod Lines
+pub mod Outcomes
+pub mod Trials
