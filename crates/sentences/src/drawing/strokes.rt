@@ -1,5 +1,5 @@
 // One stroke of a drawing.
-ghost use Rattle.std.specs.Prelude.{◌≡◌, Some, MatchOption, MatchResult};
+ghost use Rattle.std.specs.Prelude.{◌≡◌, MatchResult};
 ghost use Rattle.refusal.specs.Reasons.{no_memory};
 ghost use Rattle.language.specs.Graphs.{blank_sheet, fresh, back as led_back, stand as stood, note as noted, maker as maker_of};
 ghost use Rattle.language.specs.declared.Action.TheVariants.{Skip};
