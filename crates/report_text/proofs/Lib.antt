@@ -11,7 +11,6 @@ pub mod Rows
 pub mod Values
 pub mod Results
 pub mod Standing
-pub mod NameLengths
 pub mod ReadCount
 pub mod Widths
 pub mod TableSizes

@@ -1,7 +1,7 @@
--- The names of a script's variables can stand as fields: a name is made of letters, digits and _, and is not empty.
-use Rattle.std.proofs.Common.{◌≡◌, ℕ, zero, suc, ◌<◌, Bool, true, false, leb, eqb, List, [], ◌∷◌, length, drop, get_or, ℤ, Some, None, Option, sym, refl, ap, ◌∙◌, subst, arith}
+-- The names of a script's variables can stand as fields: a name is made of letters, digits and _, and has at most 16 bytes.
+use Rattle.std.proofs.Common.{◌≡◌, ℕ, zero, suc, ◌<◌, ◌≤◌, Bool, true, false, leb, eqb, List, [], ◌∷◌, length, drop, get_or, ℤ, Some, None, Option, sym, refl, ap, ◌∙◌, subst, arith}
 use Rattle.std.specs.Prelude.{◌||◌}
-use Rattle.std.proofs.lemmas.Bool.{cond_both, eqb-true, false≢true}
+use Rattle.std.proofs.lemmas.Bool.{cond_both, eqb-true, leb-true, false≢true}
 use Rattle.refusal.specs.declared.Place.{Place}
 use Rattle.words.specs.Words.{Word, Next, Text, Reads, Part, Spelling, letter, digit, inner, run, gap, behind, reserved, reserved_in, name_word, value, symbols, symbol_in, symbol_part, part}
 use Rattle.words.specs.Words.Word.{name, number, mark}
@@ -24,9 +24,9 @@ use Rattle.graphs.specs.Fitting.{no_variable}
 use Rattle.report_text.specs.Reports.{name_of}
 use Rattle.report_text.proofs.Plainness.{ends_field, Plain}
 
--- a name that can stand as a field, and is not empty
+-- a name that can stand as a field, of at most 16 bytes
 abbrev IsField : List ℕ → Type 0
-IsField n = Plain n × (0 < length n)
+IsField n = Plain n × (length n ≤ 16)
 
 -- a byte of a test that neither a space nor LF passes
 plain_byte : (f : ℕ → Bool) → f 32 ≡ false → f 10 ≡ false → (b : ℕ) → f b ≡ true → ends_field b ≡ false
@@ -67,7 +67,7 @@ part_names (b ∷ bs) p =
     let n = b ∷ run inner bs in
     let ds = b ∷ run digit bs in
     cond_both (letter b) _ _ P
-    (λ e. cond_both (leb (length n) 16) _ _ NamesNext (λ _. name_next n p (reserved_in reserved n) ((plain_byte letter refl refl b e, run_plain bs), omega arith)) (λ _. tt))
+    (λ e. cond_both (leb (length n) 16) _ _ NamesNext (λ f. name_next n p (reserved_in reserved n) ((plain_byte letter refl refl b e, run_plain bs), leb-true (length n) 16 f)) (λ _. tt))
     (λ _. cond_both (digit b) _ _ P
     (λ _. cond_both (leb (value 0 ds) 2147483647) _ _ NamesNext (λ _. tt) (λ _. tt))
     (λ _. symbol_next (symbol_in symbols (b ∷ bs)) b p))
@@ -113,6 +113,11 @@ at_place (x ∷ vs) (suc v) b h = at_place vs v (omega arith) h.1
 pub names_plain : (bs : List ℕ) (g : Graph) → Verdict bs (drawn g) → (v : ℕ) → v < length g.variables → Plain (name_of g v)
 names_plain bs g d v h = (at_place g.variables v h (drawn_names d g refl)).0
 
--- and none is empty
-pub names_there : (bs : List ℕ) (g : Graph) → Verdict bs (drawn g) → (v : ℕ) → v < length g.variables → 0 < length (name_of g v)
-names_there bs g d v h = (at_place g.variables v h (drawn_names d g refl)).1
+short_place : (vs : List Variable) (v : ℕ) → Fields vs → length (get_or vs v no_variable).name ≤ 16
+short_place [] v h = omega arith
+short_place (x ∷ vs) zero h = h.0.1
+short_place (x ∷ vs) (suc v) h = short_place vs v h.1
+
+-- they are short, and so is the empty name of one that is not there
+pub names_short : (bs : List ℕ) (g : Graph) → Verdict bs (drawn g) → (v : ℕ) → length (name_of g v) ≤ 16
+names_short bs g d v = short_place g.variables v (drawn_names d g refl)

@@ -28,7 +28,7 @@ use Rattle.report_text.specs.Reports.{row, name_of, grade_there, row_of, rows_at
 use Rattle.report_text.specs.Laws.{ScriptSettles}
 use Rattle.report_text.specs.Room.{most_bytes, HasRoom}
 use Rattle.report_text.proofs.Places.{Early, reads_early}
-use Rattle.report_text.proofs.NameLengths.{names_short}
+use Rattle.report_text.proofs.Plain.{names_short}
 use Rattle.report_text.proofs.ReadCount.{reads_few}
 use Rattle.report_text.proofs.TableSizes.{tables_sized}
 use Rattle.report_text.proofs.ValueSizes.{SizedPair, intervals_sized}
