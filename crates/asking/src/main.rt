@@ -4,8 +4,8 @@
 use anyhow::anyhow;
 use books::Book;
 use kinds::{Bound, Grade, Kind};
-use reader::read;
 use script_books::{BoundBook, GradeBook};
+use script_graph::read;
 use std::env;
 use std::io::Read;
 

@@ -7,7 +7,7 @@ use Rattle.std.specs.List.{fold, All}
 use Rattle.std.proofs.lemmas.List.{get_or-set_same, set-get_or, get_or-take, take-take}
 use Rattle.std.proofs.lemmas.List.Elements.{All-head, All-tail, All-take, All-more, All-get_or}
 use Rattle.std.proofs.lemmas.List.Sums.{fold_more}
-use Rattle.language.specs.declared.Edge.{Edge}
+use Rattle.language_theory.specs.declared.Edge.{Edge}
 use Rattle.below.specs.Ascent.{Way, passed, turned, AtRest, Ascends, most_turns}
 
 -- a place that is raised or stays is a list that changes or stays

@@ -3,8 +3,8 @@ use Rattle.std.specs.Prelude.{◌≡◌, ℕ, ◌≤◌, Bool, List, All, fold, 
 use Rattle.std.specs.Bool.{MatchBool}
 use Rattle.std.specs.Option.{option_flatten}
 use Rattle.std.specs.Fn.{iterate}
-use Rattle.language.specs.declared.Action.{Action}
-use Rattle.language.specs.declared.Edge.{Edge}
+use Rattle.language_theory.specs.declared.Action.{Action}
+use Rattle.language_theory.specs.declared.Edge.{Edge}
 
 -- how rows go along edges: what one is behind an action, if it passes, and what it is raised by another
 pub record Way (R : Type 0) : Type 0 where

@@ -2,7 +2,7 @@
 use Rattle.std.specs.Prelude.{◌≡◌, ℕ, IsTrue, ◌+◌, ◌-◌, ◌*◌, ◌^◌, min, List, ◌++◌, map, Option, Some, if◌then◌else◌, ◌==◌, not, Bool, zip, position, length, slice_get, unwrap_or, codes, decimal}
 use Rattle.std.specs.List.{flat_map, range_with_len}
 use Rattle.std.specs.Option.{option_flatten}
-use Rattle.soundness.specs.declared.Finding.{Finding}
+use Rattle.soundness_theory.specs.declared.Finding.{Finding}
 use Rattle.below.specs.Spans.{end_of, span_text}
 use Rattle.below.specs.declared.spans.Span.{Span}
 use Rattle.below.specs.declared.origins.Origin.{Origin}

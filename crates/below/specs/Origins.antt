@@ -2,10 +2,10 @@
 use Rattle.std.specs.Prelude.{ℕ, if◌then◌else◌, List, map, zip, nat_le, Option, Some, unwrap_or, slice_get, slice_set, codes}
 use Rattle.kinds.specs.declared.grade.Grade.{Grade}
 use Rattle.kinds.specs.declared.grade.Grade.TheVariants.{Unreached, Written as Graded_written, Sensed as Graded_sensed, Heard as Graded_heard}
-use Rattle.language.specs.declared.Source.{Source}
-use Rattle.language.specs.declared.Source.TheVariants.{Written, Sensed, Heard}
-use Rattle.language.specs.declared.Action.{Action}
-use Rattle.language.specs.declared.Action.TheVariants.{Skip, Any, Read, Shift, Negate, AtMost, AtLeast, Before}
+use Rattle.language_theory.specs.declared.Source.{Source}
+use Rattle.language_theory.specs.declared.Source.TheVariants.{Written, Sensed, Heard}
+use Rattle.language_theory.specs.declared.Action.{Action}
+use Rattle.language_theory.specs.declared.Action.TheVariants.{Skip, Any, Read, Shift, Negate, AtMost, AtLeast, Before}
 use Rattle.below.specs.Ascent.{Way}
 use Rattle.below.specs.declared.origins.Origin.{Origin}
 use Rattle.below.specs.declared.origins.Origin.TheVariants.{Nowhere, Script, Station, Air}

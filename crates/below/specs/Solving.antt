@@ -2,14 +2,14 @@
 use Rattle.std.specs.Prelude.{◌≡◌, ℕ, ◌+◌, ◌-◌, ◌*◌, ◌^◌, min, max, Bool, not, ◌&&◌, List, ◌++◌, map, length, drop, fold, sum_by, replicate, ℤ, pos, unsigned_abs, Option, option_map, option_and_then, slice_get, unwrap_or}
 use Rattle.std.specs.Bool.{then_some}
 use Rattle.std.specs.List.{filter_map}
-use Rattle.language.specs.declared.Action.{Action}
-use Rattle.language.specs.declared.Action.TheVariants.{Skip, Any, Read, Shift, Negate, AtMost, AtLeast, Before}
-use Rattle.language.specs.declared.Range.{Range}
-use Rattle.language.specs.declared.Edge.{Edge}
-use Rattle.language.specs.declared.Lookup.{Lookup}
-use Rattle.sentences.specs.declared.Variable.{Variable}
-use Rattle.sentences.specs.declared.Table.{Table}
-use Rattle.reader.specs.declared.graph.Graph.{Graph}
+use Rattle.language_theory.specs.declared.Action.{Action}
+use Rattle.language_theory.specs.declared.Action.TheVariants.{Skip, Any, Read, Shift, Negate, AtMost, AtLeast, Before}
+use Rattle.language_theory.specs.declared.Range.{Range}
+use Rattle.language_theory.specs.declared.Edge.{Edge}
+use Rattle.language_theory.specs.declared.Lookup.{Lookup}
+use Rattle.parser.specs.declared.Variable.{Variable}
+use Rattle.parser.specs.declared.Table.{Table}
+use Rattle.script_graph.specs.declared.graph.Graph.{Graph}
 use Rattle.below.specs.Ascent.{Ascends, row_at, first_alone}
 use Rattle.below.specs.Spans.{span_of, only_zero, span_at, is_index, spans_way}
 use Rattle.below.specs.Origins.{origin_at, origins_way}

@@ -5,9 +5,9 @@ use Rattle.std.specs.Int.{w64, saturate_signed}
 use Rattle.std.specs.Fmt.{signed_decimal}
 use Rattle.kinds.specs.declared.bound.Bound.{Bound}
 use Rattle.kinds.specs.declared.bound.Bound.TheVariants.{Least, Whole, Greatest}
-use Rattle.language.specs.declared.Action.{Action}
-use Rattle.language.specs.declared.Action.TheVariants.{Skip, Any, Read, Shift, Negate, AtMost, AtLeast, Before}
-use Rattle.language.specs.declared.Range.{Range}
+use Rattle.language_theory.specs.declared.Action.{Action}
+use Rattle.language_theory.specs.declared.Action.TheVariants.{Skip, Any, Read, Shift, Negate, AtMost, AtLeast, Before}
+use Rattle.language_theory.specs.declared.Range.{Range}
 use Rattle.below.specs.Ascent.{Way}
 use Rattle.below.specs.declared.spans.End.{End}
 use Rattle.below.specs.declared.spans.End.TheVariants.{Below, Number, Above}

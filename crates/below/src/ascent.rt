@@ -1,12 +1,12 @@
 // An independent solver: what is known at the points of a graph, from the first point on along the edges until nothing changes.
 ghost use Rattle.std.specs.Prelude.{◌≡◌, Some, IfOk, IsOkUnless, slice_set};
 ghost use Rattle.std.specs.Bool.{FalseIff};
-ghost use Rattle.refusal.specs.Reasons.{no_memory};
+ghost use Rattle.base.specs.Reasons.{no_memory};
 ghost use Rattle.below.specs.Ascent.{Way, row_at, place_raised, passed, turned, AtRest, Ascends, first_alone};
 
-use language::{Action, Edge};
-use reader::graph::Graph;
-use refusal::Refusal;
+use base::Refusal;
+use language_theory::{Action, Edge};
+use script_graph::graph::Graph;
 use std::alloc::Global;
 
 // More turns than any script here takes.

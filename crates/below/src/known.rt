@@ -1,15 +1,15 @@
 // What is known of a script, by the independent solver or by sessions.
 ghost use Rattle.std.specs.Prelude.{◌≡◌, ◌↔◌, ◌++◌, ◌/◌, ◌%◌, ◌<◌, length, Some, IsNone, IfOk, OnOk, IsOkUnless};
-ghost use Rattle.refusal.specs.Reasons.{no_memory};
+ghost use Rattle.base.specs.Reasons.{no_memory};
 ghost use Rattle.below.specs.Spans.{end_of};
 ghost use Rattle.below.specs.Known.{fault_of, spots_at, all_spots, number_of, known_span, known_origin, first_other, fault_text, spot_text, difference_text, AtOne};
 
 use crate::origins::Origin;
 use crate::spans::{End, Span};
+use base::{Place, Refusal};
 use kinds::Bound;
-use reader::graph::Graph;
-use refusal::{Place, Refusal};
-use soundness::Finding;
+use script_graph::graph::Graph;
+use soundness_theory::Finding;
 use std::alloc::Global;
 use std::fmt;
 

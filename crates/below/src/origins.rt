@@ -4,7 +4,7 @@ ghost use Rattle.below.specs.Origins.{origin_of, origin_from, origin_text, origi
 
 use crate::ascent::Row;
 use kinds::Grade;
-use language::{Action, Source};
+use language_theory::{Action, Source};
 use std::fmt;
 
 // The best source that a value may come from; at a point that nothing reaches there is none.

@@ -1,15 +1,15 @@
 // What the independent solver knows of a script.
 ghost use Rattle.std.specs.Prelude.{◌≡◌, IfOk, IsOkUnless};
-ghost use Rattle.refusal.specs.Reasons.{no_memory};
+ghost use Rattle.base.specs.Reasons.{no_memory};
 ghost use Rattle.below.specs.Solving.{whole, reach, number_in, distance_in, cap_of, declared, fault_at, KnownBelow};
 
 use crate::ascent::{Ascent, ascend};
 use crate::known::{Fault, Known, Spot};
 use crate::origins::{Origin, Origins};
 use crate::spans::Spans;
-use language::{Action, Lookup, Range};
-use reader::graph::Graph;
-use refusal::Refusal;
+use base::Refusal;
+use language_theory::{Action, Lookup, Range};
+use script_graph::graph::Graph;
 use std::alloc::Global;
 
 // The larger size of the two ends of a range.

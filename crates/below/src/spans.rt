@@ -5,7 +5,7 @@ ghost use Rattle.below.specs.declared.spans.End.TheVariants.{Below, Number, Abov
 
 use crate::ascent::Row;
 use kinds::Bound;
-use language::{Action, Range};
+use language_theory::{Action, Range};
 use std::fmt;
 
 // An end of a span: a whole number, or none below or above all numbers; in this order.

@@ -2,14 +2,14 @@
 #![tactic(auto)]
 
 ghost use Rattle.std.specs.Prelude.{◌≡◌, min, MatchResult};
-ghost use Rattle.refusal.specs.Reasons.{no_memory};
+ghost use Rattle.base.specs.Reasons.{no_memory};
 ghost use Rattle.kinds.specs.Limits.{most_unknowns};
 ghost use Rattle.bench.specs.Largest.{shown_at, Tops};
 
 use anyhow::anyhow;
+use base::Refusal;
 use books::{Book, Entry};
 use kinds::Bound;
-use refusal::Refusal;
 use shapes::{Shape, Shaped};
 use solver::{Analysis, MOST_ROUNDS};
 use std::alloc::Global;

@@ -4,8 +4,8 @@ use Rattle.std.proofs.Common.{sym, ap, ◌∙◌, arith, lt-ltb, le-ltb, not-suc
 use Rattle.std.specs.List.{range_with_len}
 use Rattle.std.proofs.lemmas.List.FromFn.{length-map-range_with_len, get_or-map-range_with_len}
 use Rattle.std.proofs.lemmas.List.{get_or_past}
-use Rattle.refusal.specs.Reasons.{nowhere}
-use Rattle.refusal.specs.declared.Reason.TheVariants.{NotThere}
+use Rattle.base.specs.Reasons.{nowhere}
+use Rattle.base.specs.declared.Reason.TheVariants.{NotThere}
 use Rattle.books.specs.Books.{nth}
 use Rattle.books.specs.Forms.{Among}
 use Rattle.books.specs.Forms.Among.{only, first, second}

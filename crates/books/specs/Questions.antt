@@ -1,8 +1,8 @@
 -- What a book answers: by its meaning, or a refusal of what is not there.
 use Rattle.std.specs.Prelude.{ℕ, cond, List, [], length, Some, None, Ok, Err, Option, Result, nat_lt, slice_index_or}
-use Rattle.refusal.specs.Reasons.{nowhere}
-use Rattle.refusal.specs.declared.Refusal.{Refusal}
-use Rattle.refusal.specs.declared.Reason.TheVariants.{NotThere}
+use Rattle.base.specs.Reasons.{nowhere}
+use Rattle.base.specs.declared.Refusal.{Refusal}
+use Rattle.base.specs.declared.Reason.TheVariants.{NotThere}
 use Rattle.books.specs.Books.{nth}
 
 -- what is found, or the refusal of what is not there

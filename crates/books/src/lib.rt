@@ -6,8 +6,8 @@ ghost use Rattle.books.specs.declared.Alternative.{Alternative};
 ghost use Rattle.books.specs.Forms.{Well, constant as constant_of, shifted as shifted_of};
 ghost use Rattle.books.specs.Questions.{counted, alternative as alternative_of};
 
+use base::Refusal;
 use kinds::Kind;
-use refusal::Refusal;
 
 mod evaluation;
 

@@ -2,10 +2,10 @@
 ghost use Rattle.std.specs.Prelude.{◌≡◌};
 ghost use Rattle.listing.specs.Names.{named, variable_names, table_names};
 
-use language::{Edge, Lookup};
+use language_theory::{Edge, Lookup};
 use listing::parts::{Name, Span, name_at};
-use reader::graph::Graph;
-use sentences::{Table, Variable};
+use parser::{Table, Variable};
+use script_graph::graph::Graph;
 use std::fmt;
 
 // The declarations, the table reads, where each edge was made, and the edges to each point.

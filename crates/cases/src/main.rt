@@ -10,11 +10,11 @@
 mod details;
 mod script;
 
+use base::Refusal;
 use details::Details;
 use listing::{Listing, RefusalLine, Summary};
-use reader::graph::Graph;
-use refusal::Refusal;
 use script::script_of;
+use script_graph::graph::Graph;
 use std::io;
 
 // Prints what became of a case: of one whose name begins with `list` the whole graph, of others a line.
@@ -35,7 +35,7 @@ fn run(rt: &HostRuntime, text: &str) -> anyhow::Result<()> {
     for case in text.split("\ncase ") {
         let (name, lines) = case.split_once('\n').unwrap_or((case, ""));
         let script = script_of(rt.alloc(), lines)?;
-        tell(rt, name, reader::read(rt.alloc(), &script))?;
+        tell(rt, name, script_graph::read(rt.alloc(), &script))?;
     }
     Ok(())
 }

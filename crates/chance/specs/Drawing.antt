@@ -4,8 +4,8 @@ use Rattle.std.proofs.Common.{sym, ap, ◌∙◌, subst, ⊎_elim, arith, mod-lt
 use Rattle.std.proofs.lemmas.Bool.{cases_lt, cond_both}
 use Rattle.std.proofs.lemmas.Bool.Decides.{nat_tests}
 use Rattle.std.proofs.lemmas.List.FromFn.{length-map-range_with_len}
-use Rattle.refusal.specs.Reasons.{nowhere}
-use Rattle.refusal.specs.declared.Reason.TheVariants.{NotThere}
+use Rattle.base.specs.Reasons.{nowhere}
+use Rattle.base.specs.declared.Reason.TheVariants.{NotThere}
 use Rattle.kinds.specs.Limits.{most_alternatives}
 use Rattle.kinds.specs.Kinds.{Ops}
 use Rattle.kinds.specs.Values.{bounds, grades, small}

@@ -1,7 +1,7 @@
 // Drawn books.
 ghost use Rattle.std.specs.Prelude.{◌≡◌, ◌<◌, ◌≤◌, min, MatchResult};
-ghost use Rattle.refusal.specs.Reasons.{nowhere};
-ghost use Rattle.refusal.specs.declared.Reason.TheVariants.{NotThere};
+ghost use Rattle.base.specs.Reasons.{nowhere};
+ghost use Rattle.base.specs.declared.Reason.TheVariants.{NotThere};
 ghost use Rattle.books.specs.Questions.{alternative as alternative_of};
 ghost use Rattle.chance.specs.Spots.{place_of};
 ghost use Rattle.chance.specs.Draws.{drawn_count, drawn_book};
@@ -10,8 +10,8 @@ ghost use Rattle.chance.specs.Drawing.{drawn_well};
 use crate::makers::Drawn;
 use crate::sites::Site;
 use crate::spots::Spot;
+use base::{Reason, Refusal};
 use books::{Alternative, Book};
-use refusal::{Reason, Refusal};
 
 // The most unknowns of a drawn book.
 const MOST_UNKNOWNS: usize = 12;

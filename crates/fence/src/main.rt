@@ -5,17 +5,17 @@ ghost use Rattle.std.specs.Prelude.{◌≡◌, ◌≤◌, IfOk, vec_len};
 ghost use Rattle.std.specs.Process.{exit_status};
 
 use anyhow::anyhow;
+use base::Refusal;
 use listing::{Listing, RefusalLine};
-use reader::read;
-use refusal::Refusal;
 use report::report_text;
+use script_graph::read;
 use std::alloc::Global;
 use std::io::{Read, Write};
 use std::process::ExitCode;
 use std::{env, io};
 
 // One byte past the limit of a script tells that it is too long, so no more is read.
-const ENOUGH: usize = sentences::MOST_BYTES + 1;
+const ENOUGH: usize = parser::MOST_BYTES + 1;
 
 const HELP: &str = "fence: a check of receiver scripts
 

@@ -1,9 +1,9 @@
 -- What is said of the text of a script, by what was said of its graph.
 use Rattle.std.proofs.Common.{◌≡◌, sym, subst, ℕ, ℤ, pos, List, Ok, Err, Result, MatchResult}
 use Rattle.kinds.specs.Limits.{most_rounds}
-use Rattle.refusal.specs.declared.Refusal.{Refusal}
-use Rattle.reader.specs.Meaning.{meaning, ReadsAs}
-use Rattle.reader.specs.declared.graph.Graph.{Graph}
+use Rattle.base.specs.declared.Refusal.{Refusal}
+use Rattle.script_graph.specs.Meaning.{meaning, ReadsAs}
+use Rattle.script_graph.specs.declared.graph.Graph.{Graph}
 use Rattle.report.specs.Reported.{Written, NotWritten}
 use Rattle.host.specs.Answers.{negated, Reported, NotReported, Answers}
 use Rattle.host.specs.Answers.NotReported.{not_written}

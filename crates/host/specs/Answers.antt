@@ -1,10 +1,10 @@
 -- What the entry point for C answers to a text, and what it leaves in the buffer.
 use Rattle.std.specs.Prelude.{◌≡◌, ℕ, ℤ, pos, neg_ℤ, List, Ok, Err}
 use Rattle.kinds.specs.Limits.{most_rounds}
-use Rattle.refusal.specs.Reasons.{number_of}
-use Rattle.refusal.specs.declared.Refusal.{Refusal}
-use Rattle.reader.specs.Meaning.{meaning, ReadsAs}
-use Rattle.reader.specs.declared.graph.Graph.{Graph}
+use Rattle.base.specs.Reasons.{number_of}
+use Rattle.base.specs.declared.Refusal.{Refusal}
+use Rattle.script_graph.specs.Meaning.{meaning, ReadsAs}
+use Rattle.script_graph.specs.declared.graph.Graph.{Graph}
 use Rattle.report.specs.Reported.{Written, NotWritten}
 
 -- the number of a refusal, negated

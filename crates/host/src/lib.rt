@@ -2,12 +2,12 @@
 #![tactic(auto)]
 
 ghost use Rattle.std.specs.Prelude.{◌≡◌, ◌≤◌, ◌<◌, ◌^◌, pos, length, IfOk, MatchResult};
-ghost use Rattle.report_text.specs.Standing.{ReportsStand};
+ghost use Rattle.report_theory.specs.Standing.{ReportsStand};
 ghost use Rattle.host.specs.Answers.{negated as negated_of, Reported, NotReported, Answers};
 
-use reader::read;
-use refusal::Refusal;
+use base::Refusal;
 use report::write_report;
+use script_graph::read;
 use solver::MOST_ROUNDS;
 use std::alloc::Global;
 
@@ -37,7 +37,7 @@ fn negated(refusal: Refusal) -> i64
 }
 
 // Reads a script, and writes its report into the front of a buffer. Answers how many bytes it takes, or the number of the refusal, negated.
-#[tactic(auto, using(crate::proofs::Reporting::length_told, report_text::proofs::Standing::reports_stand))]
+#[tactic(auto, using(crate::proofs::Reporting::length_told, report_theory::proofs::Standing::reports_stand))]
 #[unsafe(no_mangle)]
 pub extern "C" fn fence_report(heap: Global, script: &[u8], report: &mut [u8]) -> i64
     ensures answer { Answers script.now report.old report.new result }

@@ -1,9 +1,9 @@
 // Lives of analyses of the worked systems, call by call: each call with what it answered.
 #![tactic(auto)]
 
+use base::Refusal;
 use books::{Book, Entry};
 use kinds::{Bound, Kind};
-use refusal::Refusal;
 use solver::{Analysis, Answer, Call, Progress, make_calls};
 use std::{fmt, io};
 use worked::{CopiedGrade, System};

@@ -2,12 +2,12 @@
 use Rattle.std.specs.Prelude.{ℕ, zero, suc, List, ◌++◌, ℤ, pos, negsuc, codes, decimal}
 use Rattle.std.proofs.Math.Utf8.{encodes}
 use Rattle.std.specs.Fmt.{signed_decimal}
-use Rattle.language.specs.declared.Action.{Action}
-use Rattle.language.specs.declared.Action.TheVariants.{Skip, Any, Read, Shift, Negate, AtMost, AtLeast, Before}
-use Rattle.language.specs.declared.Edge.{Edge}
-use Rattle.language.specs.declared.Range.{Range}
-use Rattle.language.specs.declared.Source.{Source}
-use Rattle.language.specs.declared.Source.TheVariants.{Written, Sensed, Heard}
+use Rattle.language_theory.specs.declared.Action.{Action}
+use Rattle.language_theory.specs.declared.Action.TheVariants.{Skip, Any, Read, Shift, Negate, AtMost, AtLeast, Before}
+use Rattle.language_theory.specs.declared.Edge.{Edge}
+use Rattle.language_theory.specs.declared.Range.{Range}
+use Rattle.language_theory.specs.declared.Source.{Source}
+use Rattle.language_theory.specs.declared.Source.TheVariants.{Written, Sensed, Heard}
 use Rattle.listing.specs.Names.{named}
 
 -- low..high

@@ -1,8 +1,8 @@
 -- The listing of a graph: how many points and edges it has, and a line for each edge in the order made.
 use Rattle.std.specs.Prelude.{ℕ, List, ◌++◌, length, vec_items, codes, decimal}
 use Rattle.std.specs.List.{flat_map}
-use Rattle.language.specs.declared.Edge.{Edge}
-use Rattle.reader.specs.declared.graph.Graph.{Graph}
+use Rattle.language_theory.specs.declared.Edge.{Edge}
+use Rattle.script_graph.specs.declared.graph.Graph.{Graph}
 use Rattle.listing.specs.Edges.{edge_line}
 use Rattle.listing.specs.Names.{variable_names}
 

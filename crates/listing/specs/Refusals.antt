@@ -1,8 +1,8 @@
 -- The line that is printed for a refusal: refused, its layer, its number, its line and its column, parted by blanks.
 use Rattle.std.specs.Prelude.{ℕ, List, ◌++◌, Some, None, codes, decimal, Option}
-use Rattle.refusal.specs.Reasons.{number_of, layer_of, text_of}
-use Rattle.refusal.specs.declared.Place.{Place}
-use Rattle.refusal.specs.declared.Refusal.{Refusal}
+use Rattle.base.specs.Reasons.{number_of, layer_of, text_of}
+use Rattle.base.specs.declared.Place.{Place}
+use Rattle.base.specs.declared.Refusal.{Refusal}
 
 -- the line and the column of a place, both 0 where there is none
 abbrev pub line_of : Option Place → ℕ

@@ -5,8 +5,8 @@ ghost use Rattle.listing.specs.Edges.{chosen_text, sum_text, effect_text, edge_l
 ghost use Rattle.listing.specs.Names.{named, variable_names};
 
 use crate::parts::{Name, Span, name_at};
-use language::{Action, Edge, Range, Source};
-use sentences::Variable;
+use language_theory::{Action, Edge, Range, Source};
+use parser::Variable;
 use std::fmt;
 
 // An edge with the variables that it speaks of.

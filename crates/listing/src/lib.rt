@@ -8,9 +8,9 @@ ghost use Rattle.listing.specs.Refusals.{refusal_line};
 mod edges;
 pub mod parts;
 
+use base::Refusal;
 use edges::EdgeLine;
-use reader::graph::Graph;
-use refusal::Refusal;
+use script_graph::graph::Graph;
 use std::fmt;
 
 // How many points and edges were read, in one line.

@@ -4,8 +4,8 @@ ghost use Rattle.std.proofs.Math.Utf8.{encodes};
 ghost use Rattle.listing.specs.Edges.{span_text};
 ghost use Rattle.listing.specs.Names.{named};
 
-use language::Range;
-use sentences::Named;
+use language_theory::Range;
+use parser::Named;
 use std::fmt;
 
 // A name: letters, digits and _, a byte each.

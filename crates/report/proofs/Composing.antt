@@ -2,16 +2,16 @@
 use Rattle.std.proofs.Common.{◌≡◌, ℕ, List, Ok, Err, Result, MatchResult, ◌∙◌, inr}
 use Rattle.std.specs.Global.{Vec}
 use Rattle.kinds.specs.Limits.{most_rounds}
-use Rattle.refusal.specs.Reasons.{no_memory}
-use Rattle.refusal.specs.declared.Refusal.{Refusal}
-use Rattle.language.specs.Names.{Verdict}
-use Rattle.language.specs.Names.Outcome.{drawn}
+use Rattle.base.specs.Reasons.{no_memory}
+use Rattle.base.specs.declared.Refusal.{Refusal}
+use Rattle.language_theory.specs.Names.{Verdict}
+use Rattle.language_theory.specs.Names.Outcome.{drawn}
 use Rattle.report.specs.Lines.{lines_text, texts}
 use Rattle.report.specs.Reported.{Gathered}
 use Rattle.report.specs.declared.lines.Field.{Field}
 use Rattle.report.proofs.Reporting.{text_of}
-use Rattle.reader.specs.Meaning.{meaning}
-use Rattle.reader.specs.declared.graph.Graph.{Graph}
+use Rattle.script_graph.specs.Meaning.{meaning}
+use Rattle.script_graph.specs.declared.graph.Graph.{Graph}
 use Rattle.report.specs.Scripts.{ReportOf, NoReportOf}
 
 pub reported : (bs : List ℕ) (g : Graph) (ls : List (Vec Field)) → Verdict bs (drawn (meaning g)) → Gathered (meaning g) most_rounds (texts ls) → (r : Result (Vec ℕ) Refusal) →

@@ -4,7 +4,7 @@ use Rattle.std.specs.List.{flat_map, sum_by}
 use Rattle.std.proofs.lemmas.List.{length_push}
 use Rattle.std.proofs.lemmas.List.Sums.{sum_by-cons, sum_by_more_le}
 use borrow.Rule.Slice.PartMut.{put_mid}
-use Rattle.lists.specs.Fronts.{Front}
+use Rattle.base.specs.Fronts.{Front}
 use Rattle.report.specs.Lines.{field_text, line_text}
 use Rattle.report.specs.declared.lines.Field.{Field}
 use Rattle.report.proofs.Joining.{tail_of, first, first_all, next_room, room_behind, front_then}

@@ -4,7 +4,7 @@ use Rattle.std.specs.List.{flat_map}
 use Rattle.std.proofs.lemmas.List.{take_more, take_all, take_rest, take_at, drop_at, drop_all, drop-drop, take-append-drop}
 use Rattle.std.proofs.lemmas.List.Concat.{flat_map-append}
 use borrow.Rule.Slice.PartMut.{put_mid}
-use Rattle.lists.specs.Fronts.{Front}
+use Rattle.base.specs.Fronts.{Front}
 
 -- what is lent of a buffer from byte e on
 abbrev pub tail_of : List ℕ → ℕ → List ℕ

@@ -3,21 +3,21 @@ use Rattle.std.proofs.Common.{◌≡◌, ℕ, ◌<◌, Bool, true, List, ◌++�
 use Rattle.std.specs.List.{flat_map}
 use Rattle.std.specs.Global.{Vec}
 use Rattle.std.proofs.lemmas.List.Folds.{flat_map-map}
-use Rattle.refusal.specs.Reasons.{nowhere}
-use Rattle.refusal.specs.declared.Refusal.{Refusal}
-use Rattle.refusal.specs.declared.Reason.TheVariants.{BufferTooShort}
+use Rattle.base.specs.Reasons.{nowhere}
+use Rattle.base.specs.declared.Refusal.{Refusal}
+use Rattle.base.specs.declared.Reason.TheVariants.{BufferTooShort}
 use Rattle.kinds.specs.Kinds.{Ops}
 use Rattle.kinds.specs.Values.{bounds, grades}
 use Rattle.kinds.specs.declared.bound.Bound.{Bound}
 use Rattle.kinds.specs.declared.grade.Grade.{Grade}
 use Rattle.books.specs.declared.Alternative.{Alternative}
-use Rattle.strategy.specs.Lives.{State, begun}
-use Rattle.language.specs.Graphs.{Graph}
-use Rattle.equations.specs.Bounds.{bound_book}
-use Rattle.equations.specs.Grades.{grade_book}
-use Rattle.lists.specs.Fronts.{Front}
-use Rattle.report_text.specs.Texts.{Report, lines, line_of, report_text}
-use Rattle.report_text.specs.Reports.{report_of}
+use Rattle.strategy_theory.specs.Lives.{State, begun}
+use Rattle.language_theory.specs.Graphs.{Graph}
+use Rattle.script_equations_theory.specs.Bounds.{bound_book}
+use Rattle.script_equations_theory.specs.Grades.{grade_book}
+use Rattle.base.specs.Fronts.{Front}
+use Rattle.report_theory.specs.Texts.{Report, lines, line_of, report_text}
+use Rattle.report_theory.specs.Reports.{report_of}
 use Rattle.report.specs.Settles.{SettlesWithin}
 use Rattle.report.specs.Reported.{Gathered, Written, NotWritten}
 use Rattle.report.specs.Lines.{field_text, lines_text, texts}

@@ -8,15 +8,15 @@ use Rattle.std.specs.List.{flat_map, range_with_len}
 use Rattle.std.specs.Global.{Vec}
 use Rattle.kinds.specs.declared.bound.Bound.{Bound}
 use Rattle.kinds.specs.declared.grade.Grade.{Grade}
-use Rattle.sentences.specs.declared.Variable.{Variable}
-use Rattle.sentences.specs.Models.{variable_of}
-use Rattle.soundness.specs.Intervals.{interval}
-use Rattle.soundness.specs.declared.Finding.{Finding}
-use Rattle.graphs.specs.Fitting.{no_variable}
-use Rattle.reader.specs.Meaning.{meaning}
-use Rattle.reader.specs.declared.graph.Graph.{Graph}
-use Rattle.report_text.specs.Texts.{Row, Found, lines, head_fields, row_fields, found_fields, end_fields}
-use Rattle.report_text.specs.Reports.{row, name_of, grade_there, row_of}
+use Rattle.parser.specs.declared.Variable.{Variable}
+use Rattle.parser.specs.Models.{variable_of}
+use Rattle.soundness_theory.specs.Intervals.{interval}
+use Rattle.soundness_theory.specs.declared.Finding.{Finding}
+use Rattle.script_equations_theory.specs.Fitting.{no_variable}
+use Rattle.script_graph.specs.Meaning.{meaning}
+use Rattle.script_graph.specs.declared.graph.Graph.{Graph}
+use Rattle.report_theory.specs.Texts.{Row, Found, lines, head_fields, row_fields, found_fields, end_fields}
+use Rattle.report_theory.specs.Reports.{row, name_of, grade_there, row_of}
 use Rattle.report.specs.Lines.{field_text, texts}
 use Rattle.report.specs.declared.lines.Field.{Field}
 

@@ -2,16 +2,16 @@
 use Rattle.std.proofs.Common.{◌≡◌, ℕ, Bool, true, false, List, [], refl, sym, ap, ◌∙◌, subst}
 use Rattle.kinds.specs.Kinds.{Ops}
 use Rattle.books.specs.declared.Alternative.{Alternative}
-use Rattle.strategy.specs.Lives.{State, Life, begun}
-use Rattle.strategy.specs.Lives.Call.{run}
-use Rattle.strategy.specs.Lives.Answer.{made}
-use Rattle.strategy.specs.Lives.Life.{set_up}
-use Rattle.soundness.specs.Questions.{Question, Told, is_settled}
-use Rattle.soundness.specs.Questions.Told.{turned_back}
-use Rattle.soundness.proofs.Settling.{settled_is}
+use Rattle.strategy_theory.specs.Lives.{State, Life, begun}
+use Rattle.strategy_theory.specs.Lives.Call.{run}
+use Rattle.strategy_theory.specs.Lives.Answer.{made}
+use Rattle.strategy_theory.specs.Lives.Life.{set_up}
+use Rattle.soundness_theory.specs.Questions.{Question, Told, is_settled}
+use Rattle.soundness_theory.specs.Questions.Told.{turned_back}
+use Rattle.soundness_theory.proofs.Settling.{settled_is}
 use Rattle.sessions.specs.Sessions.{CarriesOn}
-use Rattle.report_text.specs.Laws.{SettlesAfter, MovesAfter}
-use Rattle.report_text.proofs.Ends.{RunSays, settles_of_life}
+use Rattle.report_theory.specs.Laws.{SettlesAfter, MovesAfter}
+use Rattle.report_theory.proofs.Ends.{RunSays, settles_of_life}
 
 module _ {V W : Type 0} (o : Ops V W) (m : List (List (Alternative V W))) where
   -- questions may be answered in any way

@@ -5,19 +5,19 @@ use Rattle.std.proofs.lemmas.List.Elements.{Contains-get_or}
 use Rattle.kinds.specs.Values.{bounds, grades}
 use Rattle.kinds.specs.declared.bound.Bound.{Bound}
 use Rattle.kinds.specs.declared.grade.Grade.{Grade}
-use Rattle.refusal.specs.Reasons.{nowhere}
-use Rattle.refusal.specs.declared.Refusal.{Refusal}
-use Rattle.refusal.specs.declared.Reason.TheVariants.{NotSettled, ListTooShort}
+use Rattle.base.specs.Reasons.{nowhere}
+use Rattle.base.specs.declared.Refusal.{Refusal}
+use Rattle.base.specs.declared.Reason.TheVariants.{NotSettled, ListTooShort}
 use Rattle.books.specs.Books.{at}
-use Rattle.equations.specs.Bounds.{bound_book, variables_of, is_there}
-use Rattle.equations.specs.Grades.{grade_at, grade_book}
-use Rattle.soundness.specs.Intervals.{interval}
-use Rattle.soundness.specs.Findings.{findings}
-use Rattle.soundness.specs.Questions.{is_settled}
-use Rattle.soundness.specs.declared.Finding.{Finding}
-use Rattle.soundness.proofs.Listing.{listed, few_findings}
-use Rattle.reader.specs.Meaning.{meaning}
-use Rattle.reader.specs.declared.graph.Graph.{Graph}
+use Rattle.script_equations_theory.specs.Bounds.{bound_book, variables_of, is_there}
+use Rattle.script_equations_theory.specs.Grades.{grade_at, grade_book}
+use Rattle.soundness_theory.specs.Intervals.{interval}
+use Rattle.soundness_theory.specs.Findings.{findings}
+use Rattle.soundness_theory.specs.Questions.{is_settled}
+use Rattle.soundness_theory.specs.declared.Finding.{Finding}
+use Rattle.soundness_theory.proofs.Listing.{listed, few_findings}
+use Rattle.script_graph.specs.Meaning.{meaning}
+use Rattle.script_graph.specs.declared.graph.Graph.{Graph}
 use Rattle.script_books.specs.Fitted.{graph_fits}
 use Rattle.sessions.specs.Answers.{NotFilled, asked_interval, asked_grade}
 use Rattle.sessions.proofs.Asked.{asked_is, there_of}

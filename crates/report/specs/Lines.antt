@@ -2,7 +2,7 @@
 use Rattle.std.specs.Prelude.{ℕ, List, map, decimal, flat_map}
 use Rattle.std.specs.Fmt.{signed_decimal}
 use Rattle.std.specs.Global.{Vec}
-use Rattle.report_text.specs.Texts.{line_of}
+use Rattle.report_theory.specs.Texts.{line_of}
 use Rattle.report.specs.declared.lines.Field.{Field}
 use Rattle.report.specs.declared.lines.Field.TheVariants.{Text, Number, Signed}
 

@@ -3,14 +3,14 @@ use Rattle.std.specs.Prelude.{◌≡◌, ℕ, ◌<◌, ◌≤◌, ◌⊎◌, Lis
 use Rattle.kinds.specs.Values.{bounds, grades}
 use Rattle.kinds.specs.declared.bound.Bound.{Bound}
 use Rattle.kinds.specs.declared.grade.Grade.{Grade}
-use Rattle.refusal.specs.Reasons.{nowhere, no_memory}
-use Rattle.refusal.specs.declared.Refusal.{Refusal}
-use Rattle.refusal.specs.declared.Reason.TheVariants.{BufferTooShort}
-use Rattle.language.specs.Graphs.{Graph}
-use Rattle.equations.specs.Bounds.{bound_book}
-use Rattle.equations.specs.Grades.{grade_book}
-use Rattle.report_text.specs.Texts.{Report, lines, report_text}
-use Rattle.report_text.specs.Reports.{report_of}
+use Rattle.base.specs.Reasons.{nowhere, no_memory}
+use Rattle.base.specs.declared.Refusal.{Refusal}
+use Rattle.base.specs.declared.Reason.TheVariants.{BufferTooShort}
+use Rattle.language_theory.specs.Graphs.{Graph}
+use Rattle.script_equations_theory.specs.Bounds.{bound_book}
+use Rattle.script_equations_theory.specs.Grades.{grade_book}
+use Rattle.report_theory.specs.Texts.{Report, lines, report_text}
+use Rattle.report_theory.specs.Reports.{report_of}
 use Rattle.report.specs.Settles.{SettlesWithin, NoEnd}
 
 module _ (g : Graph) (budget : ℕ) where

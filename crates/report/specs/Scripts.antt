@@ -1,12 +1,12 @@
 -- What comes of a script's bytes: reading, and then the report with the largest budget.
 use Rattle.std.specs.Prelude.{◌≡◌, ℕ, ◌⊎◌, List}
 use Rattle.kinds.specs.Limits.{most_rounds}
-use Rattle.refusal.specs.declared.Refusal.{Refusal}
-use Rattle.language.specs.Graphs.{Graph}
-use Rattle.language.specs.Names.{Verdict}
-use Rattle.language.specs.Names.Outcome.{drawn}
-use Rattle.sentences.specs.Outlines.{RefusedAs}
-use Rattle.report_text.specs.Texts.{Report, report_text}
+use Rattle.base.specs.declared.Refusal.{Refusal}
+use Rattle.language_theory.specs.Graphs.{Graph}
+use Rattle.language_theory.specs.Names.{Verdict}
+use Rattle.language_theory.specs.Names.Outcome.{drawn}
+use Rattle.parser.specs.Outlines.{RefusedAs}
+use Rattle.report_theory.specs.Texts.{Report, report_text}
 use Rattle.report.specs.Reported.{Reports, NoReport}
 
 -- the bytes are a script, and this is the text of its report

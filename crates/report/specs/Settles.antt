@@ -2,12 +2,12 @@
 use Rattle.std.specs.Prelude.{◌≡◌, ℕ, ◌<◌, ◌≤◌, Bool, true, ◌⊎◌, List}
 use Rattle.kinds.specs.Limits.{most_rounds}
 use Rattle.kinds.specs.Kinds.{Ops}
-use Rattle.refusal.specs.Reasons.{nowhere}
-use Rattle.refusal.specs.declared.Refusal.{Refusal}
-use Rattle.refusal.specs.declared.Reason.TheVariants.{BudgetTooLarge, NotSettled}
+use Rattle.base.specs.Reasons.{nowhere}
+use Rattle.base.specs.declared.Refusal.{Refusal}
+use Rattle.base.specs.declared.Reason.TheVariants.{BudgetTooLarge, NotSettled}
 use Rattle.books.specs.declared.Alternative.{Alternative}
-use Rattle.reader.specs.declared.graph.Graph.{Graph}
-use Rattle.report_text.specs.Laws.{SettlesAfter, MovesAfter}
+use Rattle.script_graph.specs.declared.graph.Graph.{Graph}
+use Rattle.report_theory.specs.Laws.{SettlesAfter, MovesAfter}
 
 module _ {V W : Type 0} (o : Ops V W) (m : List (List (Alternative V W))) (budget : ℕ) where
   -- the budget is allowed, and it is settled after k rounds, at the values x

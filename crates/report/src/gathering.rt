@@ -3,24 +3,24 @@ ghost use Rattle.std.specs.Prelude.{◌≡◌, ◌++◌, ◌<◌, map, length, M
 ghost use Rattle.kinds.specs.Values.{grades as grades_kind};
 ghost use Rattle.books.specs.Books.{at};
 ghost use Rattle.books.specs.Entries.{values};
-ghost use Rattle.equations.specs.Bounds.{variables_of};
-ghost use Rattle.equations.specs.Grades.{grade_at};
-ghost use Rattle.refusal.specs.Reasons.{no_memory};
-ghost use Rattle.soundness.specs.Findings.{findings};
-ghost use Rattle.reader.specs.Meaning.{meaning};
-ghost use Rattle.report_text.specs.Texts.{lines, row_fields, found_fields};
-ghost use Rattle.report_text.specs.Reports.{found, report_of, rows_at, found_at, name_of};
+ghost use Rattle.script_equations_theory.specs.Bounds.{variables_of};
+ghost use Rattle.script_equations_theory.specs.Grades.{grade_at};
+ghost use Rattle.base.specs.Reasons.{no_memory};
+ghost use Rattle.soundness_theory.specs.Findings.{findings};
+ghost use Rattle.script_graph.specs.Meaning.{meaning};
+ghost use Rattle.report_theory.specs.Texts.{lines, row_fields, found_fields};
+ghost use Rattle.report_theory.specs.Reports.{found, report_of, rows_at, found_at, name_of};
 ghost use Rattle.report.specs.Lines.{field_text, texts};
 ghost use Rattle.report.specs.Settles.{SettledOn};
 
 use crate::lines::{Field, end_line, found_line, head_line, row_line};
+use base::{Place, Reason, Refusal};
 use kinds::{Bound, Grade};
-use reader::graph::Graph;
-use refusal::{Place, Reason, Refusal};
+use parser::Named;
 use script_books::{BoundBook, GradeBook};
-use sentences::Named;
+use script_graph::graph::Graph;
 use sessions::Session;
-use soundness::Finding;
+use soundness_theory::Finding;
 use std::alloc::Global;
 
 // A finding to be written over.

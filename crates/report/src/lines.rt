@@ -2,14 +2,14 @@
 ghost use Rattle.std.specs.Prelude.{◌≡◌, map, decimal, MatchResult};
 ghost use Rattle.kinds.specs.Values.{rank_of};
 ghost use Rattle.kinds.specs.Texts.{bound_text};
-ghost use Rattle.refusal.specs.Reasons.{no_memory};
-ghost use Rattle.report_text.specs.Texts.{head_fields, row_fields, found_fields, end_fields};
-ghost use Rattle.report_text.specs.Reports.{row, found};
+ghost use Rattle.base.specs.Reasons.{no_memory};
+ghost use Rattle.report_theory.specs.Texts.{head_fields, row_fields, found_fields, end_fields};
+ghost use Rattle.report_theory.specs.Reports.{row, found};
 ghost use Rattle.report.specs.Lines.{field_text};
 
+use base::Refusal;
 use kinds::{Bound, Grade};
-use refusal::Refusal;
-use soundness::Finding;
+use soundness_theory::Finding;
 use std::alloc::Global;
 
 // A field of a line: a word of the format or a name, or a number.

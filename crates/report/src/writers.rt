@@ -1,7 +1,7 @@
 // Fields and lines as text: how much room they take, and how they are written into the tail of a lent buffer.
 ghost use Rattle.std.specs.Prelude.{◌≡◌, ◌-◌, ◌<◌, ◌≤◌, [], ◌∷◌, ◌++◌, length};
 ghost use Rattle.std.specs.Option.{SomeIff};
-ghost use Rattle.lists.specs.Fronts.{Front};
+ghost use Rattle.base.specs.Fronts.{Front};
 ghost use Rattle.report.specs.Lines.{field_text, line_text, lines_text};
 
 use crate::lines::Field;

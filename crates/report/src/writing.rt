@@ -1,13 +1,13 @@
 // The report of a script, and how it is written into a lent buffer.
 ghost use Rattle.std.specs.Prelude.{◌≡◌, ◌<◌, true, None, length, MatchResult};
 ghost use Rattle.books.specs.Entries.{values};
-ghost use Rattle.strategy.specs.Lives.{begun};
+ghost use Rattle.strategy_theory.specs.Lives.{begun};
 ghost use Rattle.solver.specs.Analyses.{state_of};
-ghost use Rattle.refusal.specs.Reasons.{nowhere, no_memory};
-ghost use Rattle.refusal.specs.declared.Reason.TheVariants.{BufferTooShort};
-ghost use Rattle.report_text.specs.Standing.{ReportsStand};
-ghost use Rattle.lists.specs.Fronts.{Front};
-ghost use Rattle.reader.specs.Meaning.{meaning};
+ghost use Rattle.base.specs.Reasons.{nowhere, no_memory};
+ghost use Rattle.base.specs.declared.Reason.TheVariants.{BufferTooShort};
+ghost use Rattle.report_theory.specs.Standing.{ReportsStand};
+ghost use Rattle.base.specs.Fronts.{Front};
+ghost use Rattle.script_graph.specs.Meaning.{meaning};
 ghost use Rattle.report.specs.Lines.{texts, lines_text};
 ghost use Rattle.report.specs.Settles.{SettlesWithin, NoEnd};
 ghost use Rattle.report.specs.Reported.{Gathered, NoReport, Written, NotWritten};
@@ -16,12 +16,12 @@ ghost use Rattle.report.specs.Scripts.{ReportOf, NoReportOf};
 use crate::gathering::gather;
 use crate::lines::Field;
 use crate::writers::{room_behind, write_lines};
+use base::{Reason, Refusal};
 use books::{Book, Entry};
 use kinds::{Bound, Grade, Kind};
-use reader::graph::Graph;
-use reader::read;
-use refusal::{Reason, Refusal};
 use script_books::{BoundBook, GradeBook};
+use script_graph::graph::Graph;
+use script_graph::read;
 use sessions::Session;
 use solver::MOST_ROUNDS;
 use std::alloc::Global;
@@ -97,7 +97,7 @@ impl<'a> Report<'a> {
 }
 
 // Runs both analyses of a script with this budget each, and writes the report into the front of a buffer. Answers how many bytes it takes.
-#[tactic(auto, using(report_text::proofs::Standing::reports_stand))]
+#[tactic(auto, using(report_theory::proofs::Standing::reports_stand))]
 pub fn write_report(
     heap: Global,
     graph: &Graph,
@@ -111,7 +111,7 @@ pub fn write_report(
 }
 
 // The text of the report of a script, whose two analyses are run with the largest budget.
-#[tactic(auto, using(report_text::proofs::Standing::reports_stand))]
+#[tactic(auto, using(report_theory::proofs::Standing::reports_stand))]
 pub fn report_text(heap: Global, script: &[u8]) -> Result<Vec<u8>, Refusal>
     ensures text { MatchResult result (λ t. ReportOf script.now t.items) (λ e. NoReportOf script.now e) }
     ensures laws { ReportsStand }

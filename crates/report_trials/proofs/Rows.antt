@@ -6,7 +6,7 @@ use Rattle.below.specs.Known.{known_origin}
 use Rattle.below.specs.declared.known.Fault.{Fault}
 use Rattle.below.specs.declared.known.Known.{Known}
 use Rattle.below.specs.declared.origins.Origin.{Origin}
-use Rattle.sentences.specs.declared.Variable.{Variable}
+use Rattle.parser.specs.declared.Variable.{Variable}
 use Rattle.listing.specs.Names.{named, variable_names}
 use Rattle.report_trials.specs.Lines.{fault_line, told_line}
 

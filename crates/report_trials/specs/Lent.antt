@@ -1,10 +1,10 @@
 -- What becomes of a buffer that is lent for a report.
 use Rattle.std.specs.Prelude.{◌≡◌, ℕ, ◌<◌, List, length, replicate, vec_items, MatchResult, Result}
-use Rattle.refusal.specs.Reasons.{nowhere}
-use Rattle.refusal.specs.declared.Refusal.{Refusal}
-use Rattle.refusal.specs.declared.Reason.TheVariants.{BufferTooShort}
-use Rattle.lists.specs.Fronts.{Front}
-use Rattle.language.specs.Graphs.{Graph}
+use Rattle.base.specs.Reasons.{nowhere}
+use Rattle.base.specs.declared.Refusal.{Refusal}
+use Rattle.base.specs.declared.Reason.TheVariants.{BufferTooShort}
+use Rattle.base.specs.Fronts.{Front}
+use Rattle.language_theory.specs.Graphs.{Graph}
 use Rattle.report.specs.declared.writing.Report.{Report}
 use Rattle.report.specs.Lines.{lines_text}
 use Rattle.report.specs.Reported.{Written, NotWritten}

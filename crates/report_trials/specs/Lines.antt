@@ -12,7 +12,7 @@ use Rattle.below.specs.declared.known.Fault.{Fault}
 use Rattle.below.specs.declared.known.Known.{Known}
 use Rattle.below.specs.declared.origins.Origin.{Origin}
 use Rattle.listing.specs.Names.{named, variable_names}
-use Rattle.reader.specs.declared.graph.Graph.{Graph}
+use Rattle.script_graph.specs.declared.graph.Graph.{Graph}
 
 -- behind a point and a name: both ends of the span and the grade, or that nothing reaches the point
 abbrev pub known_text : Option Span → Origin → List ℕ

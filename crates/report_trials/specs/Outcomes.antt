@@ -1,6 +1,6 @@
 -- What became of a buffer that was lent for a report.
 use Rattle.std.specs.Prelude.{◌≡◌, ℕ, List, ◌++◌, length, All, Ok, Err, Result, codes, decimal}
-use Rattle.refusal.specs.declared.Refusal.{Refusal}
+use Rattle.base.specs.declared.Refusal.{Refusal}
 use Rattle.listing.specs.Refusals.{refusal_line}
 use Rattle.report_trials.specs.declared.buffers.Outcome.{Outcome}
 use Rattle.report_trials.specs.declared.buffers.Outcome.TheVariants.{Written, Refused, Miswritten, Spoiled}

@@ -1,9 +1,9 @@
 -- What a trial has of a script.
 use Rattle.std.specs.Prelude.{ℕ, List}
-use Rattle.language.specs.Names.{Verdict}
-use Rattle.language.specs.Names.Outcome.{drawn}
-use Rattle.reader.specs.Meaning.{meaning}
-use Rattle.reader.specs.declared.graph.Graph.{Graph}
+use Rattle.language_theory.specs.Names.{Verdict}
+use Rattle.language_theory.specs.Names.Outcome.{drawn}
+use Rattle.script_graph.specs.Meaning.{meaning}
+use Rattle.script_graph.specs.declared.graph.Graph.{Graph}
 use Rattle.report.specs.Scripts.{ReportOf}
 use Rattle.report_trials.specs.Lines.{HasLines}
 

@@ -1,14 +1,14 @@
 // Buffers that are lent for a report.
 ghost use Rattle.std.specs.Prelude.{◌≡◌, ◌≢◌, ◌↔◌, ℕ, List, ◌++◌, Some, IsTrue, All, MatchOption, MatchResult};
-ghost use Rattle.refusal.specs.Reasons.{no_memory};
-ghost use Rattle.reader.specs.Meaning.{meaning};
+ghost use Rattle.base.specs.Reasons.{no_memory};
+ghost use Rattle.script_graph.specs.Meaning.{meaning};
 ghost use Rattle.report_trials.specs.Lent.{text_of, Lends, LendsWithin};
 ghost use Rattle.report_trials.specs.Outcomes.{Answered, Becomes, outcome_text};
 
+use base::Refusal;
 use listing::RefusalLine;
-use reader::graph::Graph;
-use refusal::Refusal;
 use report::{Report, write_report};
+use script_graph::graph::Graph;
 use std::alloc::Global;
 use std::fmt;
 

@@ -10,11 +10,11 @@ mod scripts;
 mod texts;
 mod trial;
 
+use base::Refusal;
 use buffers::{Beside, Lent};
 use listing::RefusalLine;
-use reader::read;
-use refusal::Refusal;
 use report::Report;
+use script_graph::read;
 use scripts::{CALIBRATION, EMPTY, SCRIPTS, Script, TABLE_READ, TURNS};
 use solver::MOST_ROUNDS;
 use std::io::{self, Write};

@@ -1,9 +1,9 @@
 // Scripts at the limits of the language, and behind them.
 ghost use Rattle.std.specs.Prelude.{◌≡◌, map, flat_map, string_bytes, MatchResult};
-ghost use Rattle.refusal.specs.Reasons.{no_memory};
+ghost use Rattle.base.specs.Reasons.{no_memory};
 ghost use Rattle.report_trials.specs.Limits.{padded_text, number_script, assignment_script, declaration, in_turn, large_script};
 
-use refusal::Refusal;
+use base::Refusal;
 use std::alloc::Global;
 use std::fmt::Write;
 

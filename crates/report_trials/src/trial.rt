@@ -1,18 +1,18 @@
 // The report of a script, beside what the solver from below finds.
 ghost use Rattle.std.specs.Prelude.{◌≡◌, ◌≢◌, ℕ, List, ◌++◌, Some, string_bytes, vec_len, flat_map, IfOk, OnOk, MatchOption, MatchResult};
 ghost use Rattle.std.proofs.Math.Utf8.{encodes};
-ghost use Rattle.refusal.specs.Reasons.{no_memory};
+ghost use Rattle.base.specs.Reasons.{no_memory};
 ghost use Rattle.listing.specs.Names.{variable_names};
 ghost use Rattle.report_trials.specs.Lines.{row_line, fault_line, spot_line, told_line, last_line, HasLines};
 ghost use Rattle.report.specs.Scripts.{NoReportOf};
 ghost use Rattle.report_trials.specs.Trials.{Tries};
 
+use base::{Place, Refusal};
 use below::{Fault, Known, Origin, Span, Spot, known_from_below, spots_of};
 use listing::parts::{Name, name_at};
-use reader::graph::Graph;
-use reader::read;
-use refusal::{Place, Refusal};
 use report::report_text;
+use script_graph::graph::Graph;
+use script_graph::read;
 use std::alloc::{AllocError, Global};
 use std::fmt::{self, Write};
 

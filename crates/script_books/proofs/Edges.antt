@@ -7,22 +7,22 @@ use Rattle.kinds.specs.declared.bound.Bound.{Bound}
 use Rattle.kinds.specs.declared.grade.Grade.{Grade}
 use Rattle.kinds.specs.declared.grade.NoWeight.{NoWeight}
 use Rattle.books.specs.declared.Alternative.{Alternative}
-use Rattle.refusal.specs.Reasons.{nowhere}
-use Rattle.refusal.specs.declared.Refusal.{Refusal}
-use Rattle.refusal.specs.declared.Reason.TheVariants.{NotThere}
+use Rattle.base.specs.Reasons.{nowhere}
+use Rattle.base.specs.declared.Refusal.{Refusal}
+use Rattle.base.specs.declared.Reason.TheVariants.{NotThere}
 use Rattle.books.specs.Books.{nth}
 use Rattle.books.specs.Questions.{found, counted}
 use Rattle.books.proofs.Rows.{rows_long, counted_inside}
-use Rattle.language.specs.Graphs as graphs
-use Rattle.language.specs.declared.Edge.{Edge}
-use Rattle.graphs.specs.Fitting.{incoming, no_variable, EdgeFits}
-use Rattle.equations.specs.Bounds.{variables_of, upper_of, lower_of, uppers, lowers, bound_unknown, bound_book}
-use Rattle.equations.specs.Grades.{grade_of, grades_at, grade_unknown, grade_book}
-use Rattle.equations.proofs.Lists.{filter_contains}
-use Rattle.sentences.specs.declared.Variable.{Variable}
-use Rattle.sentences.specs.Models.{variable_of}
-use Rattle.reader.specs.Meaning.{meaning}
-use Rattle.reader.specs.declared.graph.Graph.{Graph}
+use Rattle.language_theory.specs.Graphs as graphs
+use Rattle.language_theory.specs.declared.Edge.{Edge}
+use Rattle.script_equations_theory.specs.Fitting.{incoming, no_variable, EdgeFits}
+use Rattle.script_equations_theory.specs.Bounds.{variables_of, upper_of, lower_of, uppers, lowers, bound_unknown, bound_book}
+use Rattle.script_equations_theory.specs.Grades.{grade_of, grades_at, grade_unknown, grade_book}
+use Rattle.script_equations_theory.proofs.Lists.{filter_contains}
+use Rattle.parser.specs.declared.Variable.{Variable}
+use Rattle.parser.specs.Models.{variable_of}
+use Rattle.script_graph.specs.Meaning.{meaning}
+use Rattle.script_graph.specs.declared.graph.Graph.{Graph}
 use Rattle.script_books.specs.Fitted.{graph_fits}
 
 -- an edge among those to a point fits

@@ -2,14 +2,14 @@
 use Rattle.std.proofs.Math.Logic.{∥∥₁_elim}
 use Rattle.kinds.specs.Values.{bounds, grades}
 use Rattle.books.specs.Forms.{Well}
-use Rattle.graphs.specs.Fitting.{Fits}
-use Rattle.graphs.proofs.Once.{fits_prop}
-use Rattle.graphs.proofs.Fits.{fits_of}
-use Rattle.equations.specs.Bounds.{bound_book}
-use Rattle.equations.specs.Grades.{grade_book}
-use Rattle.equations.proofs.Forms.{bound_well, grade_well}
-use Rattle.reader.specs.Meaning.{meaning}
-use Rattle.reader.specs.declared.graph.Graph.{Graph}
+use Rattle.script_equations_theory.specs.Fitting.{Fits}
+use Rattle.script_equations_theory.proofs.Once.{fits_prop}
+use Rattle.script_equations_theory.proofs.Fits.{fits_of}
+use Rattle.script_equations_theory.specs.Bounds.{bound_book}
+use Rattle.script_equations_theory.specs.Grades.{grade_book}
+use Rattle.script_equations_theory.proofs.Forms.{bound_well, grade_well}
+use Rattle.script_graph.specs.Meaning.{meaning}
+use Rattle.script_graph.specs.declared.graph.Graph.{Graph}
 
 pub graph_fits : (g : Graph) → Fits (meaning g)
 graph_fits g = ∥∥₁_elim g.drawn (fits_prop (meaning g)) (λ s. fits_of s.script (meaning g) s.read)

@@ -1,19 +1,19 @@
 // The bound book of a graph.
 ghost use Rattle.std.specs.Prelude.{◌≡◌, ◌<◌, cond, Ok, Err};
-ghost use Rattle.refusal.specs.Reasons.{nowhere};
-ghost use Rattle.refusal.specs.declared.Reason.TheVariants.{NotThere};
+ghost use Rattle.base.specs.Reasons.{nowhere};
+ghost use Rattle.base.specs.declared.Reason.TheVariants.{NotThere};
 ghost use Rattle.books.specs.Books.{nth};
 ghost use Rattle.books.specs.Questions.{found};
-ghost use Rattle.equations.specs.Bounds.{bound_book, uppers, lowers, variables_of, is_there, upper as upper_at};
-ghost use Rattle.reader.specs.Meaning.{meaning};
+ghost use Rattle.script_equations_theory.specs.Bounds.{bound_book, uppers, lowers, variables_of, is_there, upper as upper_at};
+ghost use Rattle.script_graph.specs.Meaning.{meaning};
 ghost use Rattle.script_books.specs.Fitted.{bounds_well};
 
 use crate::ends::{Choice, lower_of, negated, upper_of};
 use crate::spots::{Spot, edge_to, number_of, spot_of, start_of};
+use base::{Reason, Refusal};
 use books::{Alternative, Book};
 use kinds::Bound;
-use reader::graph::Graph;
-use refusal::{Reason, Refusal};
+use script_graph::graph::Graph;
 
 // The equations of how far each variable of a script can go at each point. A view of the graph: an alternative is computed from its edge when it is asked for.
 #[derive(Clone, Copy)]

@@ -2,13 +2,13 @@
 ghost use Rattle.std.specs.Prelude.{◌≡◌, ◌<◌, true, cond, neg_ℤ};
 ghost use Rattle.kinds.specs.Values.{small};
 ghost use Rattle.books.specs.declared.Terms.TheVariants.{One, Two};
-ghost use Rattle.graphs.specs.Fitting.{ActionFits};
-ghost use Rattle.equations.specs.Bounds.{as_is, copied as copied_of, given as given_for, low_enough as low_enough_at, high_enough as high_enough_at, apart_enough as apart_enough_at, upper_of as upper_for, lower_of as lower_for};
+ghost use Rattle.script_equations_theory.specs.Fitting.{ActionFits};
+ghost use Rattle.script_equations_theory.specs.Bounds.{as_is, copied as copied_of, given as given_for, low_enough as low_enough_at, high_enough as high_enough_at, apart_enough as apart_enough_at, upper_of as upper_for, lower_of as lower_for};
 
 use crate::start::Start;
 use books::{Alternative, Term, Terms, Test};
 use kinds::Bound;
-use language::Action;
+use language_theory::Action;
 
 // An alternative of a bound.
 pub(crate) type Choice = Alternative<Bound, i64>;

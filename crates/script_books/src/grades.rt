@@ -1,24 +1,24 @@
 // The grade book of a graph.
 ghost use Rattle.std.specs.Prelude.{◌≡◌, ◌<◌, cond, Ok, Err, [], ◌∷◌};
 ghost use Rattle.kinds.specs.declared.grade.Grade.TheVariants.{Written};
-ghost use Rattle.refusal.specs.Reasons.{nowhere};
-ghost use Rattle.refusal.specs.declared.Reason.TheVariants.{NotThere};
+ghost use Rattle.base.specs.Reasons.{nowhere};
+ghost use Rattle.base.specs.declared.Reason.TheVariants.{NotThere};
 ghost use Rattle.books.specs.Books.{nth};
 ghost use Rattle.books.specs.Questions.{found};
 ghost use Rattle.books.specs.Forms.{constant};
-ghost use Rattle.graphs.specs.Fitting.{ActionFits};
-ghost use Rattle.equations.specs.Bounds.{variables_of, is_there};
-ghost use Rattle.equations.specs.Grades.{grade_book, grade_at, grades_at, grade_of as grade_for, grade_from, grade_copied};
-ghost use Rattle.reader.specs.Meaning.{meaning};
+ghost use Rattle.script_equations_theory.specs.Fitting.{ActionFits};
+ghost use Rattle.script_equations_theory.specs.Bounds.{variables_of, is_there};
+ghost use Rattle.script_equations_theory.specs.Grades.{grade_book, grade_at, grades_at, grade_of as grade_for, grade_from, grade_copied};
+ghost use Rattle.script_graph.specs.Meaning.{meaning};
 ghost use Rattle.script_books.specs.Fitted.{grades_well};
 
 use crate::spots::{Spot, edge_to, number_of, spot_of, start_of};
 use crate::start::Start;
+use base::{Reason, Refusal};
 use books::{Alternative, Book, Term, Terms, Test};
 use kinds::{Grade, NoWeight};
-use language::{Action, Source};
-use reader::graph::Graph;
-use refusal::{Reason, Refusal};
+use language_theory::{Action, Source};
+use script_graph::graph::Graph;
 
 // The equations of where the value of each variable of a script comes from at each point. A view of the graph, as the bound book is.
 #[derive(Clone, Copy)]

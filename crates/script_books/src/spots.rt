@@ -1,18 +1,18 @@
 // Variables at points, and the unknowns and edges that belong to them.
 ghost use Rattle.std.specs.Prelude.{◌≡◌, ◌+◌, ◌*◌, ◌/◌, ◌%◌, ◌<◌, ◌≤◌, cond, Ok, Err, IfOk, MatchResult};
-ghost use Rattle.refusal.specs.Reasons.{nowhere};
-ghost use Rattle.refusal.specs.declared.Reason.TheVariants.{NotThere};
+ghost use Rattle.base.specs.Reasons.{nowhere};
+ghost use Rattle.base.specs.declared.Reason.TheVariants.{NotThere};
 ghost use Rattle.books.specs.Books.{nth};
 ghost use Rattle.books.specs.Questions.{found};
-ghost use Rattle.graphs.specs.Fitting.{EdgeFits, incoming};
-ghost use Rattle.equations.specs.Bounds.{variables_of, is_there, upper as upper_at, lower as lower_at};
-ghost use Rattle.equations.specs.Grades.{grade_at};
-ghost use Rattle.reader.specs.Meaning.{meaning};
+ghost use Rattle.script_equations_theory.specs.Fitting.{EdgeFits, incoming};
+ghost use Rattle.script_equations_theory.specs.Bounds.{variables_of, is_there, upper as upper_at, lower as lower_at};
+ghost use Rattle.script_equations_theory.specs.Grades.{grade_at};
+ghost use Rattle.script_graph.specs.Meaning.{meaning};
 
 use crate::start::Start;
-use language::Edge;
-use reader::graph::Graph;
-use refusal::{Reason, Refusal};
+use base::{Reason, Refusal};
+use language_theory::Edge;
+use script_graph::graph::Graph;
 
 // A variable at a point.
 #[derive(Clone, Copy)]

@@ -2,13 +2,13 @@
 use Rattle.std.proofs.Common.{◌≡◌, ℕ, ◌<◌, Bool, true, false, cond, nat_lt, Ok, Err, Result, IfOk, refl, sym, ap, ◌∙◌, subst, arith}
 use Rattle.std.proofs.lemmas.Bool.{cond_both, and_parts, and_from}
 use Rattle.std.proofs.lemmas.Bool.Decides.{nat_tests}
-use Rattle.refusal.specs.Reasons.{nowhere}
-use Rattle.refusal.specs.declared.Refusal.{Refusal}
-use Rattle.refusal.specs.declared.Reason.TheVariants.{NotThere, NotSettled}
-use Rattle.language.specs.Graphs.{Graph}
-use Rattle.equations.specs.Bounds.{variables_of, is_there}
-use Rattle.soundness.specs.Questions.{Told}
-use Rattle.soundness.specs.Questions.Told.{turned_back}
+use Rattle.base.specs.Reasons.{nowhere}
+use Rattle.base.specs.declared.Refusal.{Refusal}
+use Rattle.base.specs.declared.Reason.TheVariants.{NotThere, NotSettled}
+use Rattle.language_theory.specs.Graphs.{Graph}
+use Rattle.script_equations_theory.specs.Bounds.{variables_of, is_there}
+use Rattle.soundness_theory.specs.Questions.{Told}
+use Rattle.soundness_theory.specs.Questions.Told.{turned_back}
 use Rattle.sessions.specs.Answers.{told_by}
 
 -- x where both tests hold, else the refusal of the first that fails

@@ -2,26 +2,26 @@
 use Rattle.std.proofs.Common.{◌≡◌, ℕ, ◌≤◌, Bool, true, false, List, [], ◌∷◌, length, Ok, Err, Option, Result, IsErrAnd, sym, refl, ap, ◌∙◌, subst, arith}
 use mathlib.Core.Bool.{Bool-set}
 use Rattle.kinds.specs.Kinds.{Ops, Laws}
-use Rattle.refusal.specs.Reasons.{number_of}
-use Rattle.refusal.specs.declared.Refusal.{Refusal}
+use Rattle.base.specs.Reasons.{number_of}
+use Rattle.base.specs.declared.Refusal.{Refusal}
 use Rattle.books.specs.Forms.{Well}
 use Rattle.books.specs.declared.Alternative.{Alternative}
 use Rattle.books.specs.declared.Entry.{Entry}
 use Rattle.books.proofs.Order.{le_of_eq}
-use Rattle.strategy.specs.Solving.{Rounds}
-use Rattle.strategy.specs.Solving.Rounds.{start, round}
-use Rattle.strategy.specs.Theory.{none_chosen, all_least}
-use Rattle.strategy.specs.Lives.{State, Call, Answer, Event, event, Life, begun}
-use Rattle.strategy.specs.Lives.Call.{run}
-use Rattle.strategy.specs.Lives.Answer.{made, refused}
-use Rattle.strategy.specs.Lives.Life.{set_up}
-use Rattle.strategy.specs.Promises.{Promises}
-use Rattle.strategy.specs.Calls.{state, unasked, fresh, Prolongs, call_with, answer_with}
-use Rattle.strategy.proofs.Making.{fresh_state}
-use Rattle.strategy.proofs.Asking.{asked_on, begins_with}
+use Rattle.strategy_theory.specs.Solving.{Rounds}
+use Rattle.strategy_theory.specs.Solving.Rounds.{start, round}
+use Rattle.strategy_theory.specs.Theory.{none_chosen, all_least}
+use Rattle.strategy_theory.specs.Lives.{State, Call, Answer, Event, event, Life, begun}
+use Rattle.strategy_theory.specs.Lives.Call.{run}
+use Rattle.strategy_theory.specs.Lives.Answer.{made, refused}
+use Rattle.strategy_theory.specs.Lives.Life.{set_up}
+use Rattle.strategy_theory.specs.Promises.{Promises}
+use Rattle.strategy_theory.specs.Calls.{state, unasked, fresh, Prolongs, call_with, answer_with}
+use Rattle.strategy_theory.proofs.Making.{fresh_state}
+use Rattle.strategy_theory.proofs.Asking.{asked_on, begins_with}
 use Rattle.solver.specs.Answers.{answered}
-use Rattle.soundness.specs.Questions.{is_settled}
-use Rattle.soundness.proofs.Settling.{settled_is}
+use Rattle.soundness_theory.specs.Questions.{is_settled}
+use Rattle.soundness_theory.proofs.Settling.{settled_is}
 use Rattle.sessions.specs.Sessions.{Lived, Opens, CarriesOn}
 
 -- tests that say the same

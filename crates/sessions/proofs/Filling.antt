@@ -5,8 +5,8 @@ use Rattle.std.proofs.lemmas.List.{append-nil, take_more, take-append-drop}
 use Rattle.std.proofs.lemmas.List.Elements.{filter_map-append}
 use Rattle.std.specs.List.{filter_map, cons_option}
 use Rattle.std.specs.Option.{is_some}
-use Rattle.lists.specs.Fronts.{Front}
-use Rattle.lists.proofs.Front.{front_room, front_more}
+use Rattle.base.specs.Fronts.{Front}
+use Rattle.base.proofs.Front.{front_room, front_more}
 
 module _ {A B : Type 0} (f : A → Option B) (l : List A) (i : ℕ) where
   -- what f gives of the front is no more than what it gives of all

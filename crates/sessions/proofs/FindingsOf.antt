@@ -5,29 +5,29 @@ use Rattle.std.proofs.lemmas.Bool.Decides.{nat_tests}
 use Rattle.kinds.specs.Values.{bounds}
 use Rattle.kinds.specs.Laws.{bounds_laws}
 use Rattle.kinds.specs.declared.bound.Bound.{Bound}
-use Rattle.refusal.specs.Reasons.{number_of, nowhere}
-use Rattle.refusal.specs.declared.Refusal.{Refusal}
-use Rattle.refusal.specs.declared.Reason.TheVariants.{NotSettled, ListTooShort}
+use Rattle.base.specs.Reasons.{number_of, nowhere}
+use Rattle.base.specs.declared.Refusal.{Refusal}
+use Rattle.base.specs.declared.Reason.TheVariants.{NotSettled, ListTooShort}
 use Rattle.books.specs.Entries.{values}
 use Rattle.books.specs.declared.Entry.{Entry}
-use Rattle.strategy.specs.Lives.Call.{question}
-use Rattle.strategy.specs.Lives.Answer.{told}
-use Rattle.strategy.specs.Promises.{GoesOn}
-use Rattle.strategy.specs.Calls.{state}
-use Rattle.strategy.proofs.Asking.{question_on}
-use Rattle.language.specs.Graphs as graphs
-use Rattle.language.specs.declared.Lookup.{Lookup}
-use Rattle.equations.specs.Bounds.{bound_book}
-use Rattle.soundness.specs.Runs.{OutsideRead}
-use Rattle.soundness.specs.Findings.{findings, FindingOf}
-use Rattle.soundness.specs.Questions.{Told, ask, is_settled}
-use Rattle.soundness.specs.Questions.Question.{findings_into}
-use Rattle.soundness.specs.Questions.Told.{filled, turned_back}
-use Rattle.soundness.specs.declared.Finding.{Finding}
-use Rattle.soundness.proofs.Sound.{reads}
-use Rattle.soundness.proofs.Listing.{few_findings}
-use Rattle.reader.specs.Meaning.{meaning}
-use Rattle.reader.specs.declared.graph.Graph.{Graph}
+use Rattle.strategy_theory.specs.Lives.Call.{question}
+use Rattle.strategy_theory.specs.Lives.Answer.{told}
+use Rattle.strategy_theory.specs.Promises.{GoesOn}
+use Rattle.strategy_theory.specs.Calls.{state}
+use Rattle.strategy_theory.proofs.Asking.{question_on}
+use Rattle.language_theory.specs.Graphs as graphs
+use Rattle.language_theory.specs.declared.Lookup.{Lookup}
+use Rattle.script_equations_theory.specs.Bounds.{bound_book}
+use Rattle.soundness_theory.specs.Runs.{OutsideRead}
+use Rattle.soundness_theory.specs.Findings.{findings, FindingOf}
+use Rattle.soundness_theory.specs.Questions.{Told, ask, is_settled}
+use Rattle.soundness_theory.specs.Questions.Question.{findings_into}
+use Rattle.soundness_theory.specs.Questions.Told.{filled, turned_back}
+use Rattle.soundness_theory.specs.declared.Finding.{Finding}
+use Rattle.soundness_theory.proofs.Sound.{reads}
+use Rattle.soundness_theory.proofs.Listing.{few_findings}
+use Rattle.script_graph.specs.Meaning.{meaning}
+use Rattle.script_graph.specs.declared.graph.Graph.{Graph}
 use Rattle.script_books.specs.Fitted.{graph_fits, bounds_well}
 use Rattle.sessions.specs.Sessions.{Lived}
 use Rattle.sessions.specs.Answers.{FilledIn, NotFilled, told_findings}

@@ -3,25 +3,25 @@ use Rattle.std.proofs.Common.{◌≡◌, ℕ, Bool, true, cond, List, length, Ok
 use Rattle.kinds.specs.Values.{grades}
 use Rattle.kinds.specs.Laws.{grades_laws}
 use Rattle.kinds.specs.declared.grade.Grade.{Grade}
-use Rattle.refusal.specs.Reasons.{nowhere}
-use Rattle.refusal.specs.declared.Refusal.{Refusal}
-use Rattle.refusal.specs.declared.Reason.TheVariants.{NotThere}
+use Rattle.base.specs.Reasons.{nowhere}
+use Rattle.base.specs.declared.Refusal.{Refusal}
+use Rattle.base.specs.declared.Reason.TheVariants.{NotThere}
 use Rattle.books.specs.Books.{at}
 use Rattle.books.specs.Entries.{values}
 use Rattle.books.specs.declared.Entry.{Entry}
-use Rattle.strategy.specs.Lives.Call.{question}
-use Rattle.strategy.specs.Lives.Answer.{told}
-use Rattle.strategy.specs.Promises.{GoesOn}
-use Rattle.strategy.specs.Calls.{state, Shows}
-use Rattle.strategy.proofs.Asking.{question_on}
-use Rattle.equations.specs.Bounds.{variables_of, is_there}
-use Rattle.equations.specs.Grades.{grade_at, grade_book}
-use Rattle.equations.proofs.Places.{grade_book_long, grade_below}
-use Rattle.soundness.specs.Questions.{Told, ask_grades, is_settled}
-use Rattle.soundness.specs.Questions.Question.{grade_of}
-use Rattle.soundness.specs.Questions.Told.{graded}
-use Rattle.reader.specs.Meaning.{meaning}
-use Rattle.reader.specs.declared.graph.Graph.{Graph}
+use Rattle.strategy_theory.specs.Lives.Call.{question}
+use Rattle.strategy_theory.specs.Lives.Answer.{told}
+use Rattle.strategy_theory.specs.Promises.{GoesOn}
+use Rattle.strategy_theory.specs.Calls.{state, Shows}
+use Rattle.strategy_theory.proofs.Asking.{question_on}
+use Rattle.script_equations_theory.specs.Bounds.{variables_of, is_there}
+use Rattle.script_equations_theory.specs.Grades.{grade_at, grade_book}
+use Rattle.script_equations_theory.proofs.Places.{grade_book_long, grade_below}
+use Rattle.soundness_theory.specs.Questions.{Told, ask_grades, is_settled}
+use Rattle.soundness_theory.specs.Questions.Question.{grade_of}
+use Rattle.soundness_theory.specs.Questions.Told.{graded}
+use Rattle.script_graph.specs.Meaning.{meaning}
+use Rattle.script_graph.specs.declared.graph.Graph.{Graph}
 use Rattle.script_books.specs.Fitted.{grades_well}
 use Rattle.sessions.specs.Sessions.{Lived}
 use Rattle.sessions.specs.Answers.{asked_grade, told_by}

@@ -3,29 +3,29 @@ use Rattle.std.proofs.Common.{◌≡◌, ℕ, ◌+◌, ◌<◌, Bool, true, cond
 use Rattle.kinds.specs.Values.{bounds, Near}
 use Rattle.kinds.specs.Laws.{bounds_laws}
 use Rattle.kinds.specs.declared.bound.Bound.{Bound}
-use Rattle.refusal.specs.Reasons.{nowhere}
-use Rattle.refusal.specs.declared.Refusal.{Refusal}
-use Rattle.refusal.specs.declared.Reason.TheVariants.{NotThere}
+use Rattle.base.specs.Reasons.{nowhere}
+use Rattle.base.specs.declared.Refusal.{Refusal}
+use Rattle.base.specs.declared.Reason.TheVariants.{NotThere}
 use Rattle.books.specs.Books.{at}
 use Rattle.books.specs.Entries.{values}
 use Rattle.books.specs.declared.Entry.{Entry}
-use Rattle.strategy.specs.Lives.Call.{question}
-use Rattle.strategy.specs.Lives.Answer.{told}
-use Rattle.strategy.specs.Promises.{GoesOn}
-use Rattle.strategy.specs.Calls.{state}
-use Rattle.strategy.proofs.Asking.{question_on}
-use Rattle.equations.specs.Bounds.{upper, variables_of, is_there, bound_book}
-use Rattle.equations.proofs.Places.{book_long, upper_below, lower_below}
-use Rattle.soundness.specs.Runs.{Run, of}
-use Rattle.soundness.specs.Intervals.{ends, interval, LiesIn, Stands}
-use Rattle.soundness.specs.Questions.{Told, ask, is_settled}
-use Rattle.soundness.specs.Questions.Question.{interval_of}
-use Rattle.soundness.specs.Questions.Told.{shown}
-use Rattle.soundness.specs.Kept.{Reached, Unreached}
-use Rattle.soundness.proofs.Sound.{inside}
-use Rattle.soundness.proofs.Pairs.{paired}
-use Rattle.reader.specs.Meaning.{meaning}
-use Rattle.reader.specs.declared.graph.Graph.{Graph}
+use Rattle.strategy_theory.specs.Lives.Call.{question}
+use Rattle.strategy_theory.specs.Lives.Answer.{told}
+use Rattle.strategy_theory.specs.Promises.{GoesOn}
+use Rattle.strategy_theory.specs.Calls.{state}
+use Rattle.strategy_theory.proofs.Asking.{question_on}
+use Rattle.script_equations_theory.specs.Bounds.{upper, variables_of, is_there, bound_book}
+use Rattle.script_equations_theory.proofs.Places.{book_long, upper_below, lower_below}
+use Rattle.soundness_theory.specs.Runs.{Run, of}
+use Rattle.soundness_theory.specs.Intervals.{ends, interval, LiesIn, Stands}
+use Rattle.soundness_theory.specs.Questions.{Told, ask, is_settled}
+use Rattle.soundness_theory.specs.Questions.Question.{interval_of}
+use Rattle.soundness_theory.specs.Questions.Told.{shown}
+use Rattle.soundness_theory.specs.Kept.{Reached, Unreached}
+use Rattle.soundness_theory.proofs.Sound.{inside}
+use Rattle.soundness_theory.proofs.Pairs.{paired}
+use Rattle.script_graph.specs.Meaning.{meaning}
+use Rattle.script_graph.specs.declared.graph.Graph.{Graph}
 use Rattle.script_books.specs.Fitted.{graph_fits, bounds_well}
 use Rattle.sessions.specs.Sessions.{Lived}
 use Rattle.sessions.specs.Answers.{asked_interval, told_by}

@@ -1,19 +1,19 @@
 -- The history of calls on a script's bounds made in a row, one call after another.
 use Rattle.std.proofs.Common.{◌≡◌, ℕ, ◌+◌, ◌<◌, List, [], ◌∷◌, ◌++◌, reverse, length, get_or, take, refl, sym, ap, ◌∙◌, subst, arith, Result, Option}
 use Rattle.std.proofs.lemmas.List.{take_more, length-take-le, reverse-append}
-use Rattle.refusal.specs.declared.Refusal.{Refusal}
+use Rattle.base.specs.declared.Refusal.{Refusal}
 use Rattle.kinds.specs.Values.{bounds}
 use Rattle.kinds.specs.declared.bound.Bound.{Bound}
 use Rattle.kinds.specs.Laws.{bounds_laws}
-use Rattle.strategy.specs.Lives.{State, Event, Life, event, begun}
-use Rattle.strategy.specs.Lives.Life.{set_up}
-use Rattle.strategy.specs.Promises.{GoesOn}
-use Rattle.strategy.proofs.Keeping.{always}
-use Rattle.equations.specs.Bounds.{bound_book}
-use Rattle.soundness.specs.Questions.{Question, Told, ask}
-use Rattle.soundness.proofs.Whole.{each_state}
-use Rattle.reader.specs.Meaning.{meaning}
-use Rattle.reader.specs.declared.graph.Graph.{Graph}
+use Rattle.strategy_theory.specs.Lives.{State, Event, Life, event, begun}
+use Rattle.strategy_theory.specs.Lives.Life.{set_up}
+use Rattle.strategy_theory.specs.Promises.{GoesOn}
+use Rattle.strategy_theory.proofs.Keeping.{always}
+use Rattle.script_equations_theory.specs.Bounds.{bound_book}
+use Rattle.soundness_theory.specs.Questions.{Question, Told, ask}
+use Rattle.soundness_theory.proofs.Whole.{each_state}
+use Rattle.script_graph.specs.Meaning.{meaning}
+use Rattle.script_graph.specs.declared.graph.Graph.{Graph}
 use Rattle.script_books.specs.declared.bounds.BoundBook.{BoundBook}
 use Rattle.script_books.specs.Fitted.{graph_fits, bounds_well}
 use Rattle.sessions.specs.Whole.{script_call, script_answer, script_paired, script_history, LivedWhole}

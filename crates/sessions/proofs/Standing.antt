@@ -18,12 +18,12 @@ use Rattle.books.specs.Forms.{Well}
 use Rattle.books.specs.declared.Alternative.{Alternative}
 use Rattle.books.specs.declared.Entry.{Entry}
 use Rattle.books.proofs.Order as order
-use Rattle.strategy.specs.Solving.{Settled}
-use Rattle.strategy.specs.Promises.{Promises, Least}
-use Rattle.strategy.specs.Calls.{unasked, state}
-use Rattle.strategy.proofs.Keeping.{promised}
-use Rattle.soundness.specs.Questions.{is_settled}
-use Rattle.soundness.proofs.Settling.{settled_is}
+use Rattle.strategy_theory.specs.Solving.{Settled}
+use Rattle.strategy_theory.specs.Promises.{Promises, Least}
+use Rattle.strategy_theory.specs.Calls.{unasked, state}
+use Rattle.strategy_theory.proofs.Keeping.{promised}
+use Rattle.soundness_theory.specs.Questions.{is_settled}
+use Rattle.soundness_theory.proofs.Settling.{settled_is}
 use Rattle.sessions.specs.Sessions.{Lived}
 
 module _ {V W : Type 0} (o : Ops V W) (l : Laws o) (m : List (List (Alternative V W))) (well : Well o m) (es : List (Entry V)) (n : ℕ) (t : ∥ Lived o m (state es n) ∥₁) where

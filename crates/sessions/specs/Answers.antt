@@ -3,19 +3,19 @@ use Rattle.std.specs.Prelude.{◌≡◌, ℕ, ◌<◌, ◌≤◌, true, false, c
 use Rattle.kinds.specs.Values.{bounds, grades}
 use Rattle.kinds.specs.declared.bound.Bound.{Bound}
 use Rattle.kinds.specs.declared.grade.Grade.{Grade}
-use Rattle.refusal.specs.Reasons.{number_of, nowhere}
-use Rattle.refusal.specs.declared.Refusal.{Refusal}
-use Rattle.refusal.specs.declared.Reason.TheVariants.{NotThere, NotSettled, ListTooShort}
+use Rattle.base.specs.Reasons.{number_of, nowhere}
+use Rattle.base.specs.declared.Refusal.{Refusal}
+use Rattle.base.specs.declared.Reason.TheVariants.{NotThere, NotSettled, ListTooShort}
 use Rattle.books.specs.Books.{at}
-use Rattle.lists.specs.Fronts.{Front}
-use Rattle.language.specs.Graphs.{Graph}
-use Rattle.equations.specs.Bounds.{bound_book, variables_of, is_there}
-use Rattle.equations.specs.Grades.{grade_at, grade_book}
-use Rattle.soundness.specs.Intervals.{interval}
-use Rattle.soundness.specs.Findings.{findings}
-use Rattle.soundness.specs.Questions.{Told, is_settled}
-use Rattle.soundness.specs.Questions.Told.{filled, turned_back}
-use Rattle.soundness.specs.declared.Finding.{Finding}
+use Rattle.base.specs.Fronts.{Front}
+use Rattle.language_theory.specs.Graphs.{Graph}
+use Rattle.script_equations_theory.specs.Bounds.{bound_book, variables_of, is_there}
+use Rattle.script_equations_theory.specs.Grades.{grade_at, grade_book}
+use Rattle.soundness_theory.specs.Intervals.{interval}
+use Rattle.soundness_theory.specs.Findings.{findings}
+use Rattle.soundness_theory.specs.Questions.{Told, is_settled}
+use Rattle.soundness_theory.specs.Questions.Told.{filled, turned_back}
+use Rattle.soundness_theory.specs.declared.Finding.{Finding}
 
 -- the interval of the variable v at the point p, y being the values: 30 where one of them is not there, then 31 where the analysis is not settled
 abbrev pub asked_interval : Graph → List Bound → ℕ → ℕ → Result (Option (Bound × Bound)) Refusal

@@ -2,10 +2,10 @@
 use Rattle.std.specs.Prelude.{ℕ, List, [], Option}
 use Rattle.kinds.specs.Kinds.{Ops}
 use Rattle.books.specs.declared.Alternative.{Alternative}
-use Rattle.strategy.specs.Lives.{State, Call, Answer, Event, Life}
-use Rattle.strategy.specs.Promises.{Promises, GoesOn}
-use Rattle.strategy.specs.Calls.{unasked}
-use Rattle.soundness.specs.Questions.{Question, Told}
+use Rattle.strategy_theory.specs.Lives.{State, Call, Answer, Event, Life}
+use Rattle.strategy_theory.specs.Promises.{Promises, GoesOn}
+use Rattle.strategy_theory.specs.Calls.{unasked}
+use Rattle.soundness_theory.specs.Questions.{Question, Told}
 
 module _ {V W : Type 0} (o : Ops V W) (m : List (List (Alternative V W))) where
   -- some history led to the state s

@@ -2,21 +2,21 @@
 use Rattle.std.specs.Prelude.{ℕ, List, [], ◌∷◌, reverse, Ok, Err, Option, Result}
 use Rattle.kinds.specs.Values.{bounds}
 use Rattle.kinds.specs.declared.bound.Bound.{Bound}
-use Rattle.refusal.specs.Reasons.{number_of}
-use Rattle.refusal.specs.declared.Refusal.{Refusal}
-use Rattle.strategy.specs.Lives as lives
-use Rattle.strategy.specs.Lives.{State, Event, Life, event}
-use Rattle.strategy.specs.Lives.Call.{question}
-use Rattle.strategy.specs.Lives.Answer.{told, refused}
-use Rattle.strategy.specs.Promises.{Always}
-use Rattle.strategy.specs.Calls.{call_with, answer_with}
+use Rattle.base.specs.Reasons.{number_of}
+use Rattle.base.specs.declared.Refusal.{Refusal}
+use Rattle.strategy_theory.specs.Lives as lives
+use Rattle.strategy_theory.specs.Lives.{State, Event, Life, event}
+use Rattle.strategy_theory.specs.Lives.Call.{question}
+use Rattle.strategy_theory.specs.Lives.Answer.{told, refused}
+use Rattle.strategy_theory.specs.Promises.{Always}
+use Rattle.strategy_theory.specs.Calls.{call_with, answer_with}
 use Rattle.solver.specs.Answers.{call_of, told_of}
-use Rattle.language.specs.Graphs.{Graph}
-use Rattle.equations.specs.Bounds.{bound_book}
-use Rattle.soundness.specs.Questions.{Question, Told, ask}
-use Rattle.soundness.specs.Questions.Question.{interval_of, findings_into}
-use Rattle.soundness.specs.Questions.Told.{shown, filled, turned_back}
-use Rattle.soundness.specs.Kept.{ScriptPromises, EachState}
+use Rattle.language_theory.specs.Graphs.{Graph}
+use Rattle.script_equations_theory.specs.Bounds.{bound_book}
+use Rattle.soundness_theory.specs.Questions.{Question, Told, ask}
+use Rattle.soundness_theory.specs.Questions.Question.{interval_of, findings_into}
+use Rattle.soundness_theory.specs.Questions.Told.{shown, filled, turned_back}
+use Rattle.soundness_theory.specs.Kept.{ScriptPromises, EachState}
 use Rattle.sessions.specs.declared.calls.ScriptCall.{ScriptCall}
 use Rattle.sessions.specs.declared.calls.ScriptCall.TheVariants.{Plain, Interval, Findings}
 use Rattle.sessions.specs.declared.calls.ScriptAnswer.{ScriptAnswer}

@@ -1,29 +1,29 @@
 // Calls of a session on a script's bounds as values, and any list of them made in a row.
 ghost use Rattle.std.specs.Prelude.{◌≡◌, length, All, IfOk, MatchResult};
 ghost use Rattle.kinds.specs.Values.{bounds};
-ghost use Rattle.refusal.specs.Reasons.{no_memory};
-ghost use Rattle.strategy.specs.Lives.{begun};
-ghost use Rattle.strategy.specs.Lives.Call.{question};
-ghost use Rattle.strategy.specs.Promises.{GoesOn, LivesStand};
+ghost use Rattle.base.specs.Reasons.{no_memory};
+ghost use Rattle.strategy_theory.specs.Lives.{begun};
+ghost use Rattle.strategy_theory.specs.Lives.Call.{question};
+ghost use Rattle.strategy_theory.specs.Promises.{GoesOn, LivesStand};
 ghost use Rattle.solver.specs.Answers.{IsUnplaced};
 ghost use Rattle.solver.specs.Analyses.{state_of};
-ghost use Rattle.graphs.specs.Fitting.{Fits};
-ghost use Rattle.equations.specs.Bounds.{bound_book};
-ghost use Rattle.soundness.specs.Kept.{RunsStand};
-ghost use Rattle.soundness.specs.Questions.{Question, Told, ask};
-ghost use Rattle.soundness.specs.Questions.Question.{findings_into};
-ghost use Rattle.reader.specs.Meaning.{meaning};
+ghost use Rattle.script_equations_theory.specs.Fitting.{Fits};
+ghost use Rattle.script_equations_theory.specs.Bounds.{bound_book};
+ghost use Rattle.soundness_theory.specs.Kept.{RunsStand};
+ghost use Rattle.soundness_theory.specs.Questions.{Question, Told, ask};
+ghost use Rattle.soundness_theory.specs.Questions.Question.{findings_into};
+ghost use Rattle.script_graph.specs.Meaning.{meaning};
 ghost use Rattle.sessions.specs.Whole.{script_call, script_answer, script_history, LivedWhole};
 ghost use Rattle.sessions.specs.declared.calls.ScriptCall.TheVariants.{Findings};
 
 use crate::session::Session;
+use base::{Place, Refusal};
 use books::{Book, Entry};
 use kinds::Bound;
-use reader::graph::Graph;
-use refusal::{Place, Refusal};
 use script_books::BoundBook;
+use script_graph::graph::Graph;
 use solver::{Answer, Call};
-use soundness::Finding;
+use soundness_theory::Finding;
 use std::alloc::Global;
 
 // A call of a session on a script's bounds: one of the calls of every analysis; the interval of a variable at a point; or the findings, into a list of this length.

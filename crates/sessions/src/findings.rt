@@ -3,29 +3,28 @@ ghost use Rattle.std.specs.Prelude.{◌≡◌, true, List, ℤ, pos, ◌-ℤ◌,
 ghost use Rattle.kinds.specs.Values.{bounds, under};
 ghost use Rattle.kinds.specs.declared.bound.Bound.TheVariants.{Whole};
 ghost use Rattle.books.specs.Entries.{values};
-ghost use Rattle.strategy.specs.Lives.Call.{question};
-ghost use Rattle.strategy.specs.Lives.Answer.{told};
-ghost use Rattle.strategy.specs.Promises.{GoesOn};
+ghost use Rattle.strategy_theory.specs.Lives.Call.{question};
+ghost use Rattle.strategy_theory.specs.Lives.Answer.{told};
+ghost use Rattle.strategy_theory.specs.Promises.{GoesOn};
 ghost use Rattle.solver.specs.Analyses.{state_of};
-ghost use Rattle.language.specs.declared.Lookup.{Lookup};
-ghost use Rattle.graphs.specs.Fitting.{LookupFits};
-ghost use Rattle.equations.specs.Bounds.{bound_book};
-ghost use Rattle.soundness.specs.Runs.{OutsideRead};
-ghost use Rattle.soundness.specs.Findings.{found_of, findings as findings_of, FindingOf};
-ghost use Rattle.soundness.specs.Kept.{Listed};
-ghost use Rattle.soundness.specs.Questions.{ask};
-ghost use Rattle.soundness.specs.Questions.Question.{findings_into};
-ghost use Rattle.soundness.specs.declared.Finding.{Finding};
-ghost use Rattle.reader.specs.Meaning.{meaning};
+ghost use Rattle.language_theory.specs.declared.Lookup.{Lookup};
+ghost use Rattle.script_equations_theory.specs.Fitting.{LookupFits};
+ghost use Rattle.script_equations_theory.specs.Bounds.{bound_book};
+ghost use Rattle.soundness_theory.specs.Runs.{OutsideRead};
+ghost use Rattle.soundness_theory.specs.Findings.{found_of, findings as findings_of, FindingOf};
+ghost use Rattle.soundness_theory.specs.Kept.{Listed};
+ghost use Rattle.soundness_theory.specs.Questions.{ask};
+ghost use Rattle.soundness_theory.specs.Questions.Question.{findings_into};
+ghost use Rattle.soundness_theory.specs.declared.Finding.{Finding};
+ghost use Rattle.script_graph.specs.Meaning.{meaning};
 ghost use Rattle.sessions.specs.Answers.{FilledIn, NotFilled, told_findings};
 
 use crate::session::Session;
+use base::{Reason, Refusal, SliceList};
 use kinds::Bound;
-use language::Lookup;
-use lists::Filled;
-use refusal::{Reason, Refusal};
+use language_theory::Lookup;
 use script_books::BoundBook;
-use soundness::Finding;
+use soundness_theory::Finding;
 
 // Whether a highest value is at most the last index of a table.
 fn is_within(highest: Bound, size: u32) -> bool
@@ -72,7 +71,7 @@ impl Session<'_, Bound, BoundBook<'_>> {
     fn fill(&self, list: &mut [Finding]) -> Result<usize, Refusal>
         ensures { self.now.settled ≡ true → length (findings_of (meaning self.now.book.graph.now) (values self.now.analysis.list.now)) ≤ length list.old → IsOkAnd result (λ n. FilledIn (meaning self.now.book.graph.now) (values self.now.analysis.list.now) list.old list.new n) }
     {
-        let mut filled = Filled::new(list);
+        let mut filled = SliceList::new(list);
         for lookup in self.book.graph().lookups() {
             if let Some(finding) = self.finding(*lookup) {
                 filled.push(finding)?;
@@ -82,7 +81,7 @@ impl Session<'_, Bound, BoundBook<'_>> {
     }
 
     // Fills the front of a list with the table reads that may fall outside, in the order of the text. Answers how many there are.
-    #[tactic(auto, using(soundness::proofs::Listing::listed))]
+    #[tactic(auto, using(soundness_theory::proofs::Listing::listed))]
     pub fn findings(&self, list: &mut [Finding]) -> Result<usize, Refusal>
         ensures answer { MatchResult result (λ n. FilledIn (meaning self.now.book.graph.now) (values self.now.analysis.list.now) list.old list.new n) (λ e. NotFilled (meaning self.now.book.graph.now) (values self.now.analysis.list.now) list.old list.new e) }
         ensures exact { Listed (meaning self.now.book.graph.now) (values self.now.analysis.list.now) }

@@ -2,20 +2,20 @@
 ghost use Rattle.std.specs.Prelude.{◌≡◌};
 ghost use Rattle.kinds.specs.Values.{grades};
 ghost use Rattle.books.specs.Entries.{values};
-ghost use Rattle.strategy.specs.Lives.Call.{question};
-ghost use Rattle.strategy.specs.Lives.Answer.{told};
-ghost use Rattle.strategy.specs.Promises.{GoesOn};
+ghost use Rattle.strategy_theory.specs.Lives.Call.{question};
+ghost use Rattle.strategy_theory.specs.Lives.Answer.{told};
+ghost use Rattle.strategy_theory.specs.Promises.{GoesOn};
 ghost use Rattle.solver.specs.Analyses.{state_of};
-ghost use Rattle.equations.specs.Grades.{grade_book};
-ghost use Rattle.soundness.specs.Questions.{ask_grades};
-ghost use Rattle.soundness.specs.Questions.Question.{grade_of};
-ghost use Rattle.soundness.specs.Questions.Told.{graded};
-ghost use Rattle.reader.specs.Meaning.{meaning};
+ghost use Rattle.script_equations_theory.specs.Grades.{grade_book};
+ghost use Rattle.soundness_theory.specs.Questions.{ask_grades};
+ghost use Rattle.soundness_theory.specs.Questions.Question.{grade_of};
+ghost use Rattle.soundness_theory.specs.Questions.Told.{graded};
+ghost use Rattle.script_graph.specs.Meaning.{meaning};
 ghost use Rattle.sessions.specs.Answers.{asked_grade, told_by};
 
 use crate::session::Session;
+use base::{Reason, Refusal};
 use kinds::Grade;
-use refusal::{Reason, Refusal};
 use script_books::GradeBook;
 
 impl Session<'_, Grade, GradeBook<'_>> {

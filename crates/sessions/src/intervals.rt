@@ -2,22 +2,22 @@
 ghost use Rattle.std.specs.Prelude.{◌≡◌, List, ℤ, IfSome, IfOk};
 ghost use Rattle.kinds.specs.Values.{bounds, Near};
 ghost use Rattle.books.specs.Entries.{values};
-ghost use Rattle.strategy.specs.Lives.Call.{question};
-ghost use Rattle.strategy.specs.Lives.Answer.{told};
-ghost use Rattle.strategy.specs.Promises.{GoesOn};
+ghost use Rattle.strategy_theory.specs.Lives.Call.{question};
+ghost use Rattle.strategy_theory.specs.Lives.Answer.{told};
+ghost use Rattle.strategy_theory.specs.Promises.{GoesOn};
 ghost use Rattle.solver.specs.Analyses.{state_of};
-ghost use Rattle.equations.specs.Bounds.{bound_book};
-ghost use Rattle.soundness.specs.Runs.{Run, of};
-ghost use Rattle.soundness.specs.Intervals.{ends as ends_of, LiesIn, Stands};
-ghost use Rattle.soundness.specs.Questions.{ask};
-ghost use Rattle.soundness.specs.Questions.Question.{interval_of};
-ghost use Rattle.soundness.specs.Questions.Told.{shown};
-ghost use Rattle.reader.specs.Meaning.{meaning};
+ghost use Rattle.script_equations_theory.specs.Bounds.{bound_book};
+ghost use Rattle.soundness_theory.specs.Runs.{Run, of};
+ghost use Rattle.soundness_theory.specs.Intervals.{ends as ends_of, LiesIn, Stands};
+ghost use Rattle.soundness_theory.specs.Questions.{ask};
+ghost use Rattle.soundness_theory.specs.Questions.Question.{interval_of};
+ghost use Rattle.soundness_theory.specs.Questions.Told.{shown};
+ghost use Rattle.script_graph.specs.Meaning.{meaning};
 ghost use Rattle.sessions.specs.Answers.{asked_interval, told_by};
 
 use crate::session::Session;
+use base::{Reason, Refusal};
 use kinds::Bound;
-use refusal::{Reason, Refusal};
 use script_books::BoundBook;
 
 // The lowest and the highest value, by an upper bound and a lower bound negated; none where one of them is least.

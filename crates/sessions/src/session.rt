@@ -1,23 +1,23 @@
 // An analysis that holds its book.
 ghost use Rattle.std.specs.Prelude.{◌≡◌, ◌<◌, ◌≤◌, true, ◌↔◌, length, IfOk, MatchResult};
 ghost use Rattle.kinds.specs.Limits.{most_rounds};
-ghost use Rattle.refusal.specs.Reasons.{nowhere};
-ghost use Rattle.refusal.specs.declared.Reason.TheVariants.{BudgetTooLarge, ListTooShort};
+ghost use Rattle.base.specs.Reasons.{nowhere};
+ghost use Rattle.base.specs.declared.Reason.TheVariants.{BudgetTooLarge, ListTooShort};
 ghost use Rattle.books.specs.Entries.{values};
-ghost use Rattle.strategy.specs.Lives.{begun};
-ghost use Rattle.strategy.specs.Lives.Call.{one_round, run, restart, value_of, choice_of, rounds_shown};
-ghost use Rattle.strategy.specs.Lives.Answer.{done, value as shown, choice as chosen, number};
-ghost use Rattle.strategy.specs.Solving.{Settled};
-ghost use Rattle.strategy.specs.Promises.{Least};
-ghost use Rattle.strategy.specs.Calls.{Shows, ShowsChoice, call_with, answer_with};
+ghost use Rattle.strategy_theory.specs.Lives.{begun};
+ghost use Rattle.strategy_theory.specs.Lives.Call.{one_round, run, restart, value_of, choice_of, rounds_shown};
+ghost use Rattle.strategy_theory.specs.Lives.Answer.{done, value as shown, choice as chosen, number};
+ghost use Rattle.strategy_theory.specs.Solving.{Settled};
+ghost use Rattle.strategy_theory.specs.Promises.{Least};
+ghost use Rattle.strategy_theory.specs.Calls.{Shows, ShowsChoice, call_with, answer_with};
 ghost use Rattle.solver.specs.Answers.{IsUnplaced, progressed, answered, call_of, answer_of};
 ghost use Rattle.solver.specs.Analyses.{state_of};
-ghost use Rattle.soundness.specs.Questions.{is_settled};
+ghost use Rattle.soundness_theory.specs.Questions.{is_settled};
 ghost use Rattle.sessions.specs.Sessions.{Lived, Opens, CarriesOn};
 
+use base::Refusal;
 use books::{Book, Entry};
 use kinds::Kind;
-use refusal::Refusal;
 use solver::{Analysis, Answer, Call, Progress};
 
 // An analysis with its book, so that no call can be given another one. It knows whether it is settled: that is found at set-up and with each round, run and restart, and not again for a question.

@@ -1,16 +1,16 @@
 // Books of a family and a size.
 ghost use Rattle.std.specs.Prelude.{◌≡◌, ◌<◌, ◌≤◌, min, MatchResult};
 ghost use Rattle.kinds.specs.Limits.{most_unknowns};
-ghost use Rattle.refusal.specs.Reasons.{nowhere};
-ghost use Rattle.refusal.specs.declared.Reason.TheVariants.{NotThere};
+ghost use Rattle.base.specs.Reasons.{nowhere};
+ghost use Rattle.base.specs.declared.Reason.TheVariants.{NotThere};
 ghost use Rattle.shapes.specs.Shapes.{equations};
 ghost use Rattle.shapes.specs.Fitting.{fits};
 
 use crate::forms::Shape;
 use crate::unknowns::Unknown;
+use base::{Reason, Refusal};
 use books::{Alternative, Book};
 use kinds::Bound;
-use refusal::{Reason, Refusal};
 
 // The most unknowns that a book may have.
 const MOST_UNKNOWNS: usize = 1536;

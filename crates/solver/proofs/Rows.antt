@@ -1,8 +1,8 @@
 -- the history of calls made in a row, one call after another
 use Rattle.std.proofs.Common.{◌≡◌, ℕ, ◌+◌, ◌<◌, List, [], ◌∷◌, ◌++◌, reverse, length, get_or, take, set, sym, refl, ap, ◌∙◌, ap₂, arith, Result}
-use Rattle.refusal.specs.declared.Refusal.{Refusal}
+use Rattle.base.specs.declared.Refusal.{Refusal}
 use Rattle.std.proofs.lemmas.List.{take_more, take_more_set, length-take-le, reverse-append}
-use Rattle.strategy.specs.Lives as lives
+use Rattle.strategy_theory.specs.Lives as lives
 use Rattle.solver.specs.Answers.{call_of, answer_of, paired, history}
 use Rattle.solver.specs.declared.calls.Call.{Call}
 use Rattle.solver.specs.declared.calls.Answer.{Answer}

@@ -2,21 +2,21 @@
 use Rattle.std.proofs.Common.{◌≡◌, ℕ, ◌+◌, ◌<◌, ◌≤◌, min, List, length, get_or, Ok, Err, Option, Result, sym, ap, ◌∙◌, subst}
 use Rattle.kinds.specs.Limits.{most_rounds}
 use Rattle.kinds.specs.Kinds.{Ops, Laws}
-use Rattle.refusal.specs.Reasons.{number_of, nowhere}
-use Rattle.refusal.specs.declared.Refusal.{Refusal}
-use Rattle.refusal.specs.declared.Reason.{Reason}
-use Rattle.refusal.specs.declared.Reason.TheVariants.{NotThere, BudgetTooLarge}
+use Rattle.base.specs.Reasons.{number_of, nowhere}
+use Rattle.base.specs.declared.Refusal.{Refusal}
+use Rattle.base.specs.declared.Reason.{Reason}
+use Rattle.base.specs.declared.Reason.TheVariants.{NotThere, BudgetTooLarge}
 use Rattle.books.specs.Forms.{Well}
 use Rattle.books.specs.declared.Alternative.{Alternative}
 use Rattle.books.specs.declared.Entry.{Entry}
-use Rattle.strategy.specs.Steps.{Ready, Ran}
-use Rattle.strategy.specs.Lives.{State, Call}
-use Rattle.strategy.specs.Lives.Call.{run, value_of, choice_of}
-use Rattle.strategy.specs.Lives.Answer.{value, choice, refused}
-use Rattle.strategy.specs.Calls.{state, Shows, ShowsChoice, Prolongs}
-use Rattle.strategy.proofs.Choosing.{value_is}
-use Rattle.strategy.proofs.Paths.{choice_is}
-use Rattle.strategy.proofs.Making.{shows_value, refuses_value, shows_choice, refuses_choice, makes_run, refuses_run}
+use Rattle.strategy_theory.specs.Steps.{Ready, Ran}
+use Rattle.strategy_theory.specs.Lives.{State, Call}
+use Rattle.strategy_theory.specs.Lives.Call.{run, value_of, choice_of}
+use Rattle.strategy_theory.specs.Lives.Answer.{value, choice, refused}
+use Rattle.strategy_theory.specs.Calls.{state, Shows, ShowsChoice, Prolongs}
+use Rattle.strategy_theory.proofs.Choosing.{value_is}
+use Rattle.strategy_theory.proofs.Paths.{choice_is}
+use Rattle.strategy_theory.proofs.Making.{shows_value, refuses_value, shows_choice, refuses_choice, makes_run, refuses_run}
 use Rattle.solver.specs.Answers.{progressed, answered}
 use Rattle.solver.specs.declared.rounds.Progress.{Progress}
 

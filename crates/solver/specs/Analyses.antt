@@ -1,6 +1,6 @@
 -- The state of an analysis.
-use Rattle.strategy.specs.Lives.{State}
-use Rattle.strategy.specs.Calls.{state}
+use Rattle.strategy_theory.specs.Lives.{State}
+use Rattle.strategy_theory.specs.Calls.{state}
 use Rattle.solver.specs.declared.analysis.Analysis.{Analysis}
 
 -- the choices, the values and the counted rounds of an analysis

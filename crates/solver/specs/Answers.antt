@@ -1,10 +1,10 @@
 -- Calls and answers of an analysis, as lives have them.
 use Rattle.std.specs.Prelude.{◌≡◌, List, [], ◌∷◌, reverse, None, Ok, Err, Result, IfErr}
-use Rattle.refusal.specs.Reasons.{number_of}
-use Rattle.refusal.specs.declared.Refusal.{Refusal}
-use Rattle.strategy.specs.Lives as lives
-use Rattle.strategy.specs.Lives.Call.{one_round, run, restart, value_of, choice_of, rounds_shown}
-use Rattle.strategy.specs.Lives.Answer.{made, done, value, choice, number, refused}
+use Rattle.base.specs.Reasons.{number_of}
+use Rattle.base.specs.declared.Refusal.{Refusal}
+use Rattle.strategy_theory.specs.Lives as lives
+use Rattle.strategy_theory.specs.Lives.Call.{one_round, run, restart, value_of, choice_of, rounds_shown}
+use Rattle.strategy_theory.specs.Lives.Answer.{made, done, value, choice, number, refused}
 use Rattle.solver.specs.declared.rounds.Progress.{Progress}
 use Rattle.solver.specs.declared.calls.Call.{Call}
 use Rattle.solver.specs.declared.calls.Call.TheVariants.{Round, Run, Restart, Value, Choice, Rounds}

@@ -1,14 +1,14 @@
 -- What making a list of calls leaves: a whole life, with the promises at set-up and after every call.
 use Rattle.std.specs.Prelude.{◌≡◌, ℕ, ◌<◌, ◌≤◌, ◌⊎◌, List, length, take, drop, All, Option, Result}
 use Rattle.kinds.specs.Kinds.{Ops}
-use Rattle.refusal.specs.Reasons.{nowhere}
-use Rattle.refusal.specs.declared.Refusal.{Refusal}
-use Rattle.refusal.specs.declared.Reason.TheVariants.{ListTooShort}
+use Rattle.base.specs.Reasons.{nowhere}
+use Rattle.base.specs.declared.Refusal.{Refusal}
+use Rattle.base.specs.declared.Reason.TheVariants.{ListTooShort}
 use Rattle.books.specs.declared.Alternative.{Alternative}
 use Rattle.books.specs.declared.Entry.{Entry}
-use Rattle.strategy.specs.Lives.{State, Event, Life}
-use Rattle.strategy.specs.Promises.{Always}
-use Rattle.strategy.specs.Calls.{state, unasked}
+use Rattle.strategy_theory.specs.Lives.{State, Event, Life}
+use Rattle.strategy_theory.specs.Promises.{Always}
+use Rattle.strategy_theory.specs.Calls.{state, unasked}
 use Rattle.solver.specs.Answers.{IsUnplaced, history}
 use Rattle.solver.specs.declared.calls.Call.{Call}
 use Rattle.solver.specs.declared.calls.Answer.{Answer}

@@ -1,20 +1,20 @@
 // An analysis of a book: strategy improvement in a lent list.
 ghost use Rattle.std.specs.Prelude.{◌≡◌, ◌+◌, ◌<◌, ◌≤◌, min, length, MatchResult, slice_index_or};
 ghost use Rattle.kinds.specs.Limits.{most_rounds};
-ghost use Rattle.refusal.specs.Reasons.{nowhere};
-ghost use Rattle.refusal.specs.declared.Reason.TheVariants.{BudgetTooLarge, ListTooShort, NotThere};
-ghost use Rattle.strategy.specs.Lives.Call.{one_round, run, restart, value_of, choice_of, rounds_shown};
-ghost use Rattle.strategy.specs.Lives.Answer.{done, value as shown, choice as chosen, number};
-ghost use Rattle.strategy.specs.Theory.{Stands};
-ghost use Rattle.strategy.specs.Steps.{Ready, Ran};
-ghost use Rattle.strategy.specs.Calls.{fresh, Shows, ShowsChoice, Begins, Prolongs, ProlongsAny};
+ghost use Rattle.base.specs.Reasons.{nowhere};
+ghost use Rattle.base.specs.declared.Reason.TheVariants.{BudgetTooLarge, ListTooShort, NotThere};
+ghost use Rattle.strategy_theory.specs.Lives.Call.{one_round, run, restart, value_of, choice_of, rounds_shown};
+ghost use Rattle.strategy_theory.specs.Lives.Answer.{done, value as shown, choice as chosen, number};
+ghost use Rattle.strategy_theory.specs.Theory.{Stands};
+ghost use Rattle.strategy_theory.specs.Steps.{Ready, Ran};
+ghost use Rattle.strategy_theory.specs.Calls.{fresh, Shows, ShowsChoice, Begins, Prolongs, ProlongsAny};
 ghost use Rattle.solver.specs.Answers.{progressed, answered};
 ghost use Rattle.solver.specs.Analyses.{state_of};
 
 use crate::rounds::{Progress, make_rounds};
+use base::{Reason, Refusal};
 use books::{Book, Entry};
 use kinds::Kind;
-use refusal::{Reason, Refusal};
 
 // The largest budget that a run may have. `as`: `From` is no constant function.
 pub const MOST_ROUNDS: usize = u16::MAX as usize;

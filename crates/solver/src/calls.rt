@@ -1,16 +1,16 @@
 // Calls of an analysis as values, and any list of them made in a row.
 ghost use Rattle.std.specs.Prelude.{◌≡◌, ◌≤◌, length, take, drop, All, MatchResult};
-ghost use Rattle.strategy.specs.Promises.{LivesStand};
-ghost use Rattle.strategy.specs.Calls.{state, Prolongs};
+ghost use Rattle.strategy_theory.specs.Promises.{LivesStand};
+ghost use Rattle.strategy_theory.specs.Calls.{state, Prolongs};
 ghost use Rattle.solver.specs.Answers.{IsUnplaced, call_of, answer_of, history};
 ghost use Rattle.solver.specs.Analyses.{state_of};
 ghost use Rattle.solver.specs.Whole.{LeadsOn, LivedThrough, TurnedBack};
 
 use crate::analysis::Analysis;
 use crate::rounds::Progress;
+use base::{Reason, Refusal};
 use books::{Book, Entry};
 use kinds::Kind;
-use refusal::{Reason, Refusal};
 
 // A call of an analysis: a value, not a closure, since `make_calls` promises something of every list of calls.
 #[derive(Clone, Copy)]

@@ -3,8 +3,8 @@
 // That values are short is a premise, not an invariant: a call may give another book than the set-up, and then nothing is known of the list, and nothing refused.
 ghost use Rattle.std.specs.Prelude.{◌≡◌, ◌<◌, true, false, ◌↔◌, length};
 ghost use Rattle.books.specs.Entries.{values, Short};
-ghost use Rattle.strategy.specs.Solving.{Settled};
-ghost use Rattle.strategy.specs.Steps.{Switches, ImprovesAll};
+ghost use Rattle.strategy_theory.specs.Solving.{Settled};
+ghost use Rattle.strategy_theory.specs.Steps.{Switches, ImprovesAll};
 
 use books::{Book, Entry, right_side, rises};
 use kinds::Kind;

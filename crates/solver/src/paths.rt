@@ -2,9 +2,9 @@
 ghost use Rattle.std.specs.Prelude.{◌≡◌, ◌<◌, true, false, ◌↔◌, length, OnSome};
 ghost use Rattle.kinds.specs.Limits.{most_items};
 ghost use Rattle.kinds.specs.Kinds.{Made};
-ghost use Rattle.strategy.specs.Strategies.{chosen as chosen_of};
+ghost use Rattle.strategy_theory.specs.Strategies.{chosen as chosen_of};
 ghost use Rattle.books.specs.Entries.{values, choices, Short};
-ghost use Rattle.strategy.specs.Steps.{Relaxes, SweepsAll, ShortSweep, opened_value, opened_all, Evaluates};
+ghost use Rattle.strategy_theory.specs.Steps.{Relaxes, SweepsAll, ShortSweep, opened_value, opened_all, Evaluates};
 
 use books::{Alternative, Book, Entry, smaller_term};
 use kinds::Kind;

@@ -1,6 +1,6 @@
 // Rounds of strategy improvement.
 ghost use Rattle.std.specs.Prelude.{◌≤◌};
-ghost use Rattle.strategy.specs.Steps.{Ready, Ran};
+ghost use Rattle.strategy_theory.specs.Steps.{Ready, Ran};
 
 use crate::choosing::{improve, is_settled};
 use crate::paths::evaluate;

@@ -1,12 +1,12 @@
 // An independent solver: levels rise from the lowest until nothing changes.
 ghost use Rattle.std.specs.Prelude.{◌≡◌, ◌<◌, true, false, length, All, IfOk, IsOkUnless};
 ghost use Rattle.std.specs.Bool.{FalseIff};
-ghost use Rattle.refusal.specs.Reasons.{no_memory};
+ghost use Rattle.base.specs.Reasons.{no_memory};
 ghost use Rattle.trials.specs.Levels.{up_to, moved as moved_level, added, reaches, level_at as level_of, holds as holds_at, part_level as level_of_part, given as given_by, Satisfied};
 ghost use Rattle.trials.specs.Ascent.{raised_to, turned, all_lowest, Ascends};
 
 use crate::levels::{Condition, Equation, Level, Part};
-use refusal::Refusal;
+use base::Refusal;
 use std::alloc::Global;
 
 // More turns than any drawn book takes.

@@ -7,9 +7,9 @@ ghost use Rattle.trials.specs.declared.lives.Seen.{Seen as SeenOf};
 use crate::ascent::{Ascent, ascend};
 use crate::levels::{Level, Names, Plain, read_equations};
 use crate::lives::{Life, Living, blank};
+use base::Refusal;
 use books::{Book, Entry};
 use chance::{Chance, Drawn};
-use refusal::Refusal;
 use std::alloc::Global;
 use std::fmt;
 

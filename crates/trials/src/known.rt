@@ -4,9 +4,9 @@ ghost use Rattle.trials.specs.Counts.{Checked};
 
 use crate::limits::Checks;
 use crate::lives::blank;
+use base::Refusal;
 use books::Book;
 use kinds::Kind;
-use refusal::Refusal;
 use solver::{Analysis, MOST_ROUNDS};
 use std::alloc::Global;
 use worked::{CopiedGrade, Depth, SinkingBook, System};

@@ -1,11 +1,11 @@
 // Equations over plain levels, as the independent solver reads them out of a book.
 ghost use Rattle.std.specs.Prelude.{◌≡◌, ◌<◌, [], ◌++◌, map, length, slice_index_or, OnOk, IfOk, IsOkUnless};
-ghost use Rattle.refusal.specs.Reasons.{no_memory};
+ghost use Rattle.base.specs.Reasons.{no_memory};
 ghost use Rattle.trials.specs.Readings.{Reading, bound_reading, grade_reading, part_of, condition_of, parts_of, equation_of, equations_from};
 
+use base::Refusal;
 use books::{Alternative, Book, Term, Terms, Test};
 use kinds::{Bound, Grade, Kind, NoWeight};
-use refusal::Refusal;
 use std::alloc::Global;
 
 // A value of either kind: the lowest, a number between, or the highest; in this order.

@@ -3,10 +3,10 @@ ghost use Rattle.std.specs.Prelude.{◌≡◌, ◌≤◌, Some, None, OnOk, Matc
 ghost use Rattle.trials.specs.Counts.{with_check, Checked};
 
 use crate::lives::look;
+use base::{Reason, Refusal};
 use books::Entry;
 use chance::Chance;
 use kinds::Bound;
-use refusal::{Reason, Refusal};
 use solver::{Analysis, MOST_ROUNDS};
 use std::alloc::Global;
 use std::fmt;

@@ -1,14 +1,14 @@
 // Lives of an analysis: the same book solved in one run, in pieces and round by round.
 ghost use Rattle.std.specs.Prelude.{◌≡◌, ◌+◌, ◌-◌, ◌^◌, ◌<◌, ◌≤◌, ◌&&◌, ◌↔◌, min, true, None, replicate, nat_le, vec_len, IfOk, IsOkUnless, MatchResult};
 ghost use Rattle.std.specs.Prelude.{length as long};
-ghost use Rattle.refusal.specs.Reasons.{nowhere, no_memory};
-ghost use Rattle.refusal.specs.declared.Reason.TheVariants.{ListTooShort};
+ghost use Rattle.base.specs.Reasons.{nowhere, no_memory};
+ghost use Rattle.base.specs.declared.Reason.TheVariants.{ListTooShort};
 ghost use Rattle.trials.specs.Shown.{first_seen, Sound, Tells};
 
 use crate::levels::{Level, Plain};
+use base::Refusal;
 use books::{Book, Entry};
 use kinds::Kind;
-use refusal::Refusal;
 use solver::{Analysis, MOST_ROUNDS, Progress};
 use std::alloc::Global;
 

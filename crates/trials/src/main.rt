@@ -11,13 +11,13 @@ mod levels;
 mod limits;
 mod lives;
 
+use base::Refusal;
 use chance::Drawn;
 use drawn::try_books;
 use kinds::{Bound, Grade};
 use known::{try_depths, try_grade, try_systems};
 use levels::Plain;
 use limits::{Checks, try_budgets, try_lists, try_tail, try_unknowns};
-use refusal::Refusal;
 use std::io;
 
 // Why the trials broke off.

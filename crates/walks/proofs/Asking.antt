@@ -4,13 +4,13 @@ use Rattle.std.specs.Prelude.{Option}
 use Rattle.kinds.specs.Values.{bounds, grades}
 use Rattle.kinds.specs.declared.bound.Bound.{Bound}
 use Rattle.kinds.specs.declared.grade.Grade.{Grade}
-use Rattle.refusal.specs.declared.Refusal.{Refusal}
+use Rattle.base.specs.declared.Refusal.{Refusal}
 use Rattle.books.specs.Books.{at}
-use Rattle.language.specs.Graphs.{Graph}
-use Rattle.equations.specs.Bounds.{bound_book, variables_of, is_there}
-use Rattle.equations.specs.Grades.{grade_at, grade_book}
-use Rattle.soundness.specs.Intervals.{interval}
-use Rattle.soundness.specs.Questions.{is_settled}
+use Rattle.language_theory.specs.Graphs.{Graph}
+use Rattle.script_equations_theory.specs.Bounds.{bound_book, variables_of, is_there}
+use Rattle.script_equations_theory.specs.Grades.{grade_at, grade_book}
+use Rattle.soundness_theory.specs.Intervals.{interval}
+use Rattle.soundness_theory.specs.Questions.{is_settled}
 use Rattle.sessions.specs.Answers.{asked_interval, asked_grade}
 use Rattle.sessions.proofs.Asked.{if_asked}
 

@@ -4,10 +4,10 @@ use Rattle.std.specs.Prelude.{ℤ, pos, int_le}
 use Rattle.std.proofs.lemmas.List.{get_or_default, get_or-set_same, get_or-set_other, length-set}
 use Rattle.std.proofs.lemmas.List.Sums.{fold_more}
 use Rattle.std.proofs.lemmas.Bool.Decides.{nat_tests}
-use Rattle.language.specs.declared.Lookup.{Lookup}
-use Rattle.sentences.specs.declared.Variable.{Variable}
-use Rattle.soundness.specs.Runs.{InRange}
-use Rattle.reader.specs.declared.graph.Graph.{Graph}
+use Rattle.language_theory.specs.declared.Lookup.{Lookup}
+use Rattle.parser.specs.declared.Variable.{Variable}
+use Rattle.soundness_theory.specs.Runs.{InRange}
+use Rattle.script_graph.specs.declared.graph.Graph.{Graph}
 use Rattle.below.specs.declared.known.Known.{Known}
 use Rattle.walks.specs.Counts.{Keeps}
 use Rattle.walks.specs.Looks.{with_read_at, with_reads}

@@ -1,7 +1,7 @@
 -- What is looked for in the answers to calls.
 use Rattle.std.specs.Prelude.{◌≡◌, ℕ, Bool, false, Option, Result, Some, None, Ok, Err, ◌==◌, vec_len}
-use Rattle.refusal.specs.declared.Refusal.{Refusal}
-use Rattle.refusal.specs.declared.Reason.{Reason}
+use Rattle.base.specs.declared.Refusal.{Refusal}
+use Rattle.base.specs.declared.Reason.{Reason}
 use Rattle.sessions.specs.declared.calls.ScriptAnswer.{ScriptAnswer}
 use Rattle.sessions.specs.declared.calls.ScriptAnswer.TheVariants.{Plain, Interval, Findings}
 

@@ -1,7 +1,7 @@
 -- What dice draw, one number after another.
 use Rattle.std.specs.Prelude.{ℕ, ◌+◌, ◌-◌, ◌*◌, ◌/◌, ◌%◌, ◌^◌, min, cond, ◌==◌, bit_xor, ℤ, pos, negsuc, ◌+ℤ◌, ◌-ℤ◌}
 use Rattle.std.specs.Int.{w64, saturate_signed}
-use Rattle.language.specs.declared.Range.{Range}
+use Rattle.language_theory.specs.declared.Range.{Range}
 
 -- the state goes on by an odd constant
 abbrev pub next_state : ℕ → ℕ

@@ -1,11 +1,11 @@
 -- What is seen of a receiver before its next step.
 use Rattle.std.specs.Prelude.{ℕ, Bool, cond, if◌then◌else◌, ◌==◌, ◌&&◌, ◌||◌, List, length, fold, ℤ, pos, int_le, int_lt, option_map, unwrap_or, slice_get}
 use Rattle.std.specs.List.{list_any}
-use Rattle.refusal.specs.declared.Place.{Place}
-use Rattle.language.specs.declared.Lookup.{Lookup}
-use Rattle.sentences.specs.declared.Table.{Table}
-use Rattle.reader.specs.declared.graph.Graph.{Graph}
-use Rattle.soundness.specs.Runs.{of}
+use Rattle.base.specs.declared.Place.{Place}
+use Rattle.language_theory.specs.declared.Lookup.{Lookup}
+use Rattle.parser.specs.declared.Table.{Table}
+use Rattle.script_graph.specs.declared.graph.Graph.{Graph}
+use Rattle.soundness_theory.specs.Runs.{of}
 use Rattle.below.specs.declared.known.Fault.{Fault}
 use Rattle.below.specs.declared.known.Known.{Known}
 use Rattle.walks.specs.Counts.{more}

@@ -2,10 +2,10 @@
 use Rattle.std.specs.Prelude.{◌≡◌, ℕ, ◌<◌, Bool, true, false, ◌&&◌, List, length, ℤ, ◌+ℤ◌, neg_ℤ, int_le, FitsSigned, Option, Some, None, slice_index_or}
 use Rattle.std.specs.List.{list_all, range_with_len}
 use Rattle.std.specs.Int.{w64, saturate_signed}
-use Rattle.language.specs.declared.Action.{Action}
-use Rattle.language.specs.declared.Action.TheVariants.{Skip, Any, Read, Shift, Negate, AtMost, AtLeast, Before}
-use Rattle.sentences.specs.declared.Variable.{Variable}
-use Rattle.soundness.specs.Runs.{of, InRange}
+use Rattle.language_theory.specs.declared.Action.{Action}
+use Rattle.language_theory.specs.declared.Action.TheVariants.{Skip, Any, Read, Shift, Negate, AtMost, AtLeast, Before}
+use Rattle.parser.specs.declared.Variable.{Variable}
+use Rattle.soundness_theory.specs.Runs.{of, InRange}
 use Rattle.below.specs.Spans.{at_most}
 use Rattle.below.specs.Known.{known_span}
 use Rattle.below.specs.declared.spans.End.TheVariants.{Number}

@@ -4,10 +4,10 @@ use Rattle.kinds.specs.Values.{grades}
 use Rattle.kinds.specs.declared.bound.Bound.{Bound}
 use Rattle.kinds.specs.declared.grade.Grade.{Grade}
 use Rattle.books.specs.Books.{at}
-use Rattle.language.specs.Graphs.{Graph}
-use Rattle.equations.specs.Bounds.{variables_of}
-use Rattle.equations.specs.Grades.{grade_at}
-use Rattle.soundness.specs.Intervals.{interval}
+use Rattle.language_theory.specs.Graphs.{Graph}
+use Rattle.script_equations_theory.specs.Bounds.{variables_of}
+use Rattle.script_equations_theory.specs.Grades.{grade_at}
+use Rattle.soundness_theory.specs.Intervals.{interval}
 use Rattle.below.specs.Spans.{end_of}
 use Rattle.below.specs.Origins.{origin_of}
 use Rattle.below.specs.declared.spans.Span.{Span}

@@ -2,7 +2,7 @@
 ghost use Rattle.std.specs.Prelude.{◌≡◌, ◌↔◌, true, Some, None, MatchResult};
 ghost use Rattle.walks.specs.Counts.{with_check};
 
-use refusal::{Reason, Refusal};
+use base::{Reason, Refusal};
 use std::fmt;
 
 // What was checked, how many checks there were, and how many failed.

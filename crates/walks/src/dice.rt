@@ -1,9 +1,9 @@
 // Dice that always fall the same way.
 ghost use Rattle.std.specs.Prelude.{◌≡◌, ◌<◌, ◌↔◌, ◌≤ℤ◌, ◌<ℤ◌, true, pos, int_le};
-ghost use Rattle.soundness.specs.Runs.{InRange};
+ghost use Rattle.soundness_theory.specs.Runs.{InRange};
 ghost use Rattle.walks.specs.Draws.{next_state, stirred, rolled, faces_of, drawn_from, drawn_of};
 
-use language::Range;
+use language_theory::Range;
 
 // As many faces as a width, or as many as there can be.
 fn faces_of(width: i64) -> u32

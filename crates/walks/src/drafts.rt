@@ -3,7 +3,7 @@ ghost use Rattle.std.specs.Prelude.{◌≡◌, [], ◌+◌, ◌<◌, ◌≤◌, 
 ghost use Rattle.walks.specs.Drafts.{Writes, Adds, Opens};
 
 use crate::dice::Dice;
-use refusal::Refusal;
+use base::Refusal;
 use std::alloc::Global;
 
 const VARIABLES: [&str; 4] = ["a", "b", "c", "d"];

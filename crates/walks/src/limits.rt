@@ -6,15 +6,15 @@ ghost use Rattle.walks.specs.Answers.{has_findings as counts_findings, RefusedFo
 
 use crate::checks::{Checks, refused};
 use crate::told::{NO_FINDING, blank};
+use base::{Reason, Refusal};
 use books::{Book, Entry};
 use kinds::{Bound, Grade};
-use reader::graph::Graph;
-use reader::read;
-use refusal::{Reason, Refusal};
 use script_books::{BoundBook, GradeBook};
+use script_graph::graph::Graph;
+use script_graph::read;
 use sessions::{ScriptAnswer, ScriptCall, Session, make_script_calls};
 use solver::{Call, MOST_ROUNDS};
-use soundness::Finding;
+use soundness_theory::Finding;
 use std::alloc::Global;
 
 // Four table reads, of which the first three have a finding.

@@ -14,13 +14,13 @@ mod tally;
 mod told;
 mod trial;
 
+use base::Refusal;
 use checks::Checks;
 use drafts::drawn_script;
 use examples::EXAMPLES;
 use limits::{
     try_calls, try_findings, try_lists, try_nothing, try_spots, try_unsettled, try_unsettled_grades,
 };
-use refusal::Refusal;
 use std::io;
 use strolls::{Course, Seen};
 use tally::Tally;

@@ -1,18 +1,18 @@
 // Receivers that run a script, and whether all that they do was told before.
 ghost use Rattle.std.specs.Prelude.{◌≡◌, ◌↔◌, ◌==◌, ◌&&◌, cond, true, false, length, vec_len, slice_set, Contains, All, MatchResult};
-ghost use Rattle.refusal.specs.Reasons.{no_memory};
-ghost use Rattle.language.specs.declared.Edge.{Edge as EdgeOf};
-ghost use Rattle.soundness.specs.Runs.{of, Acts};
+ghost use Rattle.base.specs.Reasons.{no_memory};
+ghost use Rattle.language_theory.specs.declared.Edge.{Edge as EdgeOf};
+ghost use Rattle.soundness_theory.specs.Runs.{of, Acts};
 ghost use Rattle.walks.specs.Counts.{more, both_seen, Agrees, Keeps};
 ghost use Rattle.walks.specs.Looks.{finds, has_fault, with_read, with_read_at, with_reads, with_state};
 ghost use Rattle.walks.specs.Steps.{opens, Exact, Declared, lies_in, is_inside};
 ghost use Rattle.below.specs.Known.{known_span};
 
 use crate::dice::Dice;
+use base::{Place, Refusal};
 use below::Known;
-use language::{Action, Edge, Lookup};
-use reader::graph::Graph;
-use refusal::{Place, Refusal};
+use language_theory::{Action, Edge, Lookup};
+use script_graph::graph::Graph;
 use std::alloc::Global;
 use std::fmt;
 

@@ -1,19 +1,19 @@
 // What sessions tell of a script.
 ghost use Rattle.std.specs.Prelude.{◌≡◌, ◌≤◌, length, map, vec_len, IfOk, MatchResult};
 ghost use Rattle.books.specs.Entries.{values};
-ghost use Rattle.reader.specs.Meaning.{meaning};
+ghost use Rattle.script_graph.specs.Meaning.{meaning};
 ghost use Rattle.walks.specs.Telling.{as_span, span_told, origin_told};
-ghost use Rattle.refusal.specs.Reasons.{no_memory};
+ghost use Rattle.base.specs.Reasons.{no_memory};
 
+use base::{Place, Refusal};
 use below::{Fault, Known, Origin, Span, Spot};
 use books::{Book, Entry};
 use kinds::{Bound, Grade, Kind};
-use reader::graph::Graph;
-use refusal::{Place, Refusal};
 use script_books::{BoundBook, GradeBook};
+use script_graph::graph::Graph;
 use sessions::Session;
 use solver::MOST_ROUNDS;
-use soundness::Finding;
+use soundness_theory::Finding;
 use std::alloc::Global;
 
 // What sessions tell of a script, and the rounds of the one on its bounds.

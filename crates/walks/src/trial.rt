@@ -5,9 +5,9 @@ ghost use Rattle.below.specs.Solving.{KnownBelow};
 
 use crate::strolls::{Course, Seen, seen_of};
 use crate::told::{Told, known_by_sessions};
+use base::Refusal;
 use below::{Difference, Known, known_from_below, spots_of};
-use reader::graph::Graph;
-use refusal::Refusal;
+use script_graph::graph::Graph;
 use std::alloc::Global;
 use std::fmt;
 
@@ -35,7 +35,7 @@ impl Trial {
         ensures told { IfOk result (λ trial. trial.told.known.variables ≡ vec_len trial.graph.variables) }
         ensures runs { IfOk result (λ trial. trial.seen.runs ≡ course.runs) }
     {
-        let graph = reader::read(heap, text)?;
+        let graph = script_graph::read(heap, text)?;
         let spots = spots_of(heap, &graph)?;
         let found = known_from_below(heap, &graph, &spots)?;
         let told = known_by_sessions(heap, &graph, &spots)?;

@@ -7,14 +7,14 @@ use Rattle.kinds.specs.Kinds.{Ops, Laws}
 use Rattle.books.specs.Books.{at, right}
 use Rattle.books.specs.Forms.{Well}
 use Rattle.books.specs.declared.Alternative.{Alternative}
-use Rattle.strategy.specs.Strategies.{chosen}
-use Rattle.strategy.specs.Solving.{improved, Settled, Rounds}
-use Rattle.strategy.specs.Solving.Rounds.{start, round}
-use Rattle.strategy.specs.Sweeping.{sweeps, opening}
-use Rattle.strategy.specs.Theory.{none_chosen, all_least}
-use Rattle.strategy.proofs.Theory.{start_stage}
-use Rattle.strategy.proofs.Chains.{rounds_stage, rest_is_least}
-use Rattle.strategy.proofs.Ends.{after_values}
+use Rattle.strategy_theory.specs.Strategies.{chosen}
+use Rattle.strategy_theory.specs.Solving.{improved, Settled, Rounds}
+use Rattle.strategy_theory.specs.Solving.Rounds.{start, round}
+use Rattle.strategy_theory.specs.Sweeping.{sweeps, opening}
+use Rattle.strategy_theory.specs.Theory.{none_chosen, all_least}
+use Rattle.strategy_theory.proofs.Theory.{start_stage}
+use Rattle.strategy_theory.proofs.Chains.{rounds_stage, rest_is_least}
+use Rattle.strategy_theory.proofs.Ends.{after_values}
 use Rattle.worked.specs.Systems.{ComesTo}
 use Rattle.worked.specs.Tests.{book_fits, well}
 

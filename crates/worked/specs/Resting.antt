@@ -10,7 +10,7 @@ use Rattle.kinds.specs.declared.bound.Bound.TheVariants.{Least, Whole, Greatest}
 use Rattle.kinds.specs.Laws.{bounds_laws, grades_laws}
 use Rattle.kinds.proofs.Sizes.{made_sized}
 use Rattle.books.specs.Books.{at}
-use Rattle.strategy.proofs.Keeping.{promised}
+use Rattle.strategy_theory.proofs.Keeping.{promised}
 use Rattle.worked.specs.Systems.{ComesTo, equations, rest_of, copying_grades, resting_grades, SystemsStand, BoundedLives}
 use Rattle.worked.specs.declared.systems.System.{System}
 use Rattle.worked.specs.declared.systems.System.TheVariants.{Nothing, Copying, Capped, Growing, Groundless, Falling}

@@ -16,9 +16,9 @@ use Rattle.books.specs.declared.Test.TheVariants.{Always}
 use Rattle.books.specs.declared.Terms.{Terms}
 use Rattle.books.specs.declared.Terms.TheVariants.{Two}
 use Rattle.books.specs.declared.Alternative.{Alternative}
-use Rattle.strategy.specs.Solving.{Settled, Rounds}
-use Rattle.strategy.specs.Theory.{none_chosen, all_least, Below}
-use Rattle.strategy.specs.Lives.{State, Event, Life}
+use Rattle.strategy_theory.specs.Solving.{Settled, Rounds}
+use Rattle.strategy_theory.specs.Theory.{none_chosen, all_least, Below}
+use Rattle.strategy_theory.specs.Lives.{State, Event, Life}
 use Rattle.worked.specs.declared.systems.System.{System}
 use Rattle.worked.specs.declared.systems.System.TheVariants.{Nothing, Copying, Capped, Growing, Groundless, Falling}
 

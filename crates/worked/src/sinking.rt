@@ -5,9 +5,9 @@ ghost use Rattle.worked.specs.Systems.{ComesTo};
 ghost use Rattle.worked.specs.Sinking.{depths, fallen, Deep, Long, sinking_depths, resting_depths};
 ghost use Rattle.worked.specs.DepthLaws.{depths_laws, depths_rest};
 
+use base::{Reason, Refusal};
 use books::{Alternative, Book, Term, Terms, Test};
 use kinds::Kind;
-use refusal::{Reason, Refusal};
 
 // A whole number, or minus infinity, or plus infinity, from the lowest to the highest.
 // A type of its own, since `Bound` is a kind already: this one has the same values and other weights.

@@ -4,9 +4,9 @@ ghost use Rattle.worked.specs.Systems.{equations, rest_of, copying_grades, resti
 ghost use Rattle.worked.specs.Resting.{rests_after, grades_rest};
 ghost use Rattle.std.specs.Prelude.{refl};
 
+use base::{Reason, Refusal};
 use books::{Alternative, Book, Term, Terms, Test};
 use kinds::{Bound, Grade, NoWeight};
-use refusal::{Reason, Refusal};
 
 // Systems over bounds.
 #[derive(Clone, Copy)]

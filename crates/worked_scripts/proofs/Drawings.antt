@@ -1,23 +1,23 @@
 -- The graphs of the scripts, from their texts.
 use Rattle.std.proofs.Common.{◌≡◌, ℕ, List, refl, subst, lit≤}
-use Rattle.words.specs.Words.{text}
-use Rattle.words.proofs.Reading.{reads_text}
-use Rattle.language.specs.Grammar.{Tree, Script}
-use Rattle.language.specs.Grammar.Const.{plain, signed}
-use Rattle.language.specs.Grammar.Span.{span}
-use Rattle.language.specs.Grammar.Heads.{no_decl, var_decl}
-use Rattle.language.specs.Grammar.Compare.{less}
-use Rattle.language.specs.Grammar.Compared.{named}
-use Rattle.language.specs.Grammar.Cond.{condition}
-use Rattle.language.specs.Grammar.Right.{a_const, a_sum, a_hear}
-use Rattle.language.specs.Grammar.Body.{no_stmt, assignment, while_stmt}
-use Rattle.language.specs.Grammar.Script.{script}
-use Rattle.language.specs.Names.{Verdict}
-use Rattle.language.specs.Names.Outcome.{drawn}
-use Rattle.language.specs.Names.Verdict.{fine}
-use Rattle.language.specs.Rules.{words}
-use Rattle.language.proofs.Verdicts.{passes_with}
-use Rattle.language.proofs.Shown.{examples}
+use Rattle.lexer.specs.Words.{text}
+use Rattle.lexer.proofs.Reading.{reads_text}
+use Rattle.language_theory.specs.Grammar.{Tree, Script}
+use Rattle.language_theory.specs.Grammar.Const.{plain, signed}
+use Rattle.language_theory.specs.Grammar.Span.{span}
+use Rattle.language_theory.specs.Grammar.Heads.{no_decl, var_decl}
+use Rattle.language_theory.specs.Grammar.Compare.{less}
+use Rattle.language_theory.specs.Grammar.Compared.{named}
+use Rattle.language_theory.specs.Grammar.Cond.{condition}
+use Rattle.language_theory.specs.Grammar.Right.{a_const, a_sum, a_hear}
+use Rattle.language_theory.specs.Grammar.Body.{no_stmt, assignment, while_stmt}
+use Rattle.language_theory.specs.Grammar.Script.{script}
+use Rattle.language_theory.specs.Names.{Verdict}
+use Rattle.language_theory.specs.Names.Outcome.{drawn}
+use Rattle.language_theory.specs.Names.Verdict.{fine}
+use Rattle.language_theory.specs.Rules.{words}
+use Rattle.language_theory.proofs.Verdicts.{passes_with}
+use Rattle.language_theory.proofs.Shown.{examples}
 use Rattle.worked_scripts.specs.Scripts.{counting_to_n, counting_to_n_graph, hearing, hearing_graph}
 use Rattle.worked_scripts.specs.Shown.{text_of, graph_of}
 use Rattle.worked_scripts.specs.declared.WorkedScript.{WorkedScript}

@@ -3,9 +3,9 @@ use Rattle.std.proofs.Common.{◌≡◌, ℕ, [], ◌∷◌, refl, subst}
 use Rattle.kinds.specs.Values.{bounds, grades}
 use Rattle.kinds.specs.Laws.{bounds_laws, grades_laws}
 use Rattle.kinds.specs.declared.grade.Grade.TheVariants.{Written}
-use Rattle.language.specs.Examples.{looking_up_graph}
-use Rattle.equations.specs.Bounds.{bound_book}
-use Rattle.equations.specs.Grades.{grade_book}
+use Rattle.language_theory.specs.Examples.{looking_up_graph}
+use Rattle.script_equations_theory.specs.Bounds.{bound_book}
+use Rattle.script_equations_theory.specs.Grades.{grade_book}
 use Rattle.worked.specs.Systems.{ComesTo}
 use Rattle.worked.specs.Play.{comes_to}
 use Rattle.worked_scripts.specs.Shown.{graph_of, rest_of}

@@ -3,16 +3,16 @@ use Rattle.std.proofs.Common.{◌≡◌, ℕ, zero, suc, ◌+◌, ◌<◌, true,
 use Rattle.std.specs.Prelude.{int_le, nat_le}
 use Rattle.std.proofs.lemmas.Bool.{false≢true}
 use Rattle.std.proofs.lemmas.Bool.Decides.{nat_tests}
-use Rattle.language.specs.Graphs.{Graph, only}
-use Rattle.language.specs.Examples.{at, edge, range as from, counting_graph, looking_up_graph, choosing_graph}
-use Rattle.language.specs.declared.Source.TheVariants.{Written, Sensed, Heard}
-use Rattle.language.specs.declared.Action.TheVariants.{Skip, Any, Read, Shift, Negate, AtMost, AtLeast, Before}
-use Rattle.language.specs.declared.Edge.{Edge}
-use Rattle.language.specs.declared.Range.{Range}
-use Rattle.language.proofs.Shown.{examples}
-use Rattle.graphs.specs.Fitting.{range}
-use Rattle.soundness.specs.Runs.{InRange, Acts, Run, OutsideRead, of}
-use Rattle.soundness.specs.Runs.Run.{begins, goes}
+use Rattle.language_theory.specs.Graphs.{Graph, only}
+use Rattle.language_theory.specs.Examples.{at, edge, range as from, counting_graph, looking_up_graph, choosing_graph}
+use Rattle.language_theory.specs.declared.Source.TheVariants.{Written, Sensed, Heard}
+use Rattle.language_theory.specs.declared.Action.TheVariants.{Skip, Any, Read, Shift, Negate, AtMost, AtLeast, Before}
+use Rattle.language_theory.specs.declared.Edge.{Edge}
+use Rattle.language_theory.specs.declared.Range.{Range}
+use Rattle.language_theory.proofs.Shown.{examples}
+use Rattle.script_equations_theory.specs.Fitting.{range}
+use Rattle.soundness_theory.specs.Runs.{InRange, Acts, Run, OutsideRead, of}
+use Rattle.soundness_theory.specs.Runs.Run.{begins, goes}
 use Rattle.worked_scripts.specs.Scripts.{hearing_graph, around_zero}
 use Rattle.worked_scripts.specs.Shown.{GoesAlong, the_read, RunsShown}
 use Rattle.worked_scripts.proofs.Drawings.{hearing_drawn}

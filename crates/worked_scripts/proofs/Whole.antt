@@ -1,7 +1,7 @@
 -- All that is known of the scripts.
 use Rattle.worked.specs.Resting.{systems}
 use Rattle.std.proofs.Common.{refl}
-use Rattle.language.proofs.Shown.{examples}
+use Rattle.language_theory.proofs.Shown.{examples}
 use Rattle.worked_scripts.specs.Shown.{CountingStands, CountingToNStands, LookingUpStands, ScriptsStand}
 use Rattle.worked_scripts.specs.declared.WorkedScript.TheVariants.{CountingToTen, CountingToN, ReadingATable}
 use Rattle.worked_scripts.proofs.Drawings.{counting_to_n_drawn}

@@ -2,11 +2,11 @@
 use Rattle.std.specs.Prelude.{ℕ, List, [], ◌∷◌, ◌++◌, pos, negsuc, neg_ℤ, Some, Option, codes}
 use Rattle.kinds.specs.declared.bound.Bound.{Bound}
 use Rattle.kinds.specs.declared.bound.Bound.TheVariants.{Whole}
-use Rattle.language.specs.Graphs.{Graph, only}
-use Rattle.language.specs.declared.Range.{Range}
-use Rattle.language.specs.declared.Source.TheVariants.{Written, Heard}
-use Rattle.language.specs.declared.Action.TheVariants.{Skip, Any, Shift, Before}
-use Rattle.language.specs.Examples.{at, range, edge}
+use Rattle.language_theory.specs.Graphs.{Graph, only}
+use Rattle.language_theory.specs.declared.Range.{Range}
+use Rattle.language_theory.specs.declared.Source.TheVariants.{Written, Heard}
+use Rattle.language_theory.specs.declared.Action.TheVariants.{Skip, Any, Shift, Before}
+use Rattle.language_theory.specs.Examples.{at, range, edge}
 
 -- a loop that counts up to a variable
 abbrev pub counting_to_n : List ℕ

@@ -1,23 +1,23 @@
 -- What is known of the scripts: graph, rounds, intervals, findings, and runs along every kind of edge.
 use Rattle.std.specs.Prelude.{◌≡◌, ℕ, List, [], ◌∷◌, ℤ, pos, negsuc, Contains}
-use Rattle.refusal.specs.declared.Place.{Place}
+use Rattle.base.specs.declared.Place.{Place}
 use Rattle.kinds.specs.Values.{bounds, grades}
 use Rattle.kinds.specs.declared.bound.Bound.{Bound}
 use Rattle.kinds.specs.declared.bound.Bound.TheVariants.{Whole}
 use Rattle.kinds.specs.declared.grade.Grade.TheVariants as grade
-use Rattle.language.specs.Graphs.{Graph, only}
-use Rattle.language.specs.Names.{Verdict}
-use Rattle.language.specs.Names.Outcome.{drawn}
-use Rattle.language.specs.Examples.{at, range, edge, counting, counting_graph, looking_up, looking_up_graph, choosing, choosing_graph}
-use Rattle.language.specs.declared.Source.TheVariants.{Written, Sensed, Heard}
-use Rattle.language.specs.declared.Action.{Action}
-use Rattle.language.specs.declared.Action.TheVariants.{Skip, Any, Read, Shift, Negate, AtMost, AtLeast, Before}
-use Rattle.language.specs.declared.Lookup.{Lookup}
-use Rattle.equations.specs.Bounds.{bound_book}
-use Rattle.equations.specs.Grades.{grade_book}
-use Rattle.soundness.specs.Runs.{Acts, Run, OutsideRead}
-use Rattle.soundness.specs.Intervals.{interval}
-use Rattle.soundness.specs.Findings.{findings}
+use Rattle.language_theory.specs.Graphs.{Graph, only}
+use Rattle.language_theory.specs.Names.{Verdict}
+use Rattle.language_theory.specs.Names.Outcome.{drawn}
+use Rattle.language_theory.specs.Examples.{at, range, edge, counting, counting_graph, looking_up, looking_up_graph, choosing, choosing_graph}
+use Rattle.language_theory.specs.declared.Source.TheVariants.{Written, Sensed, Heard}
+use Rattle.language_theory.specs.declared.Action.{Action}
+use Rattle.language_theory.specs.declared.Action.TheVariants.{Skip, Any, Read, Shift, Negate, AtMost, AtLeast, Before}
+use Rattle.language_theory.specs.declared.Lookup.{Lookup}
+use Rattle.script_equations_theory.specs.Bounds.{bound_book}
+use Rattle.script_equations_theory.specs.Grades.{grade_book}
+use Rattle.soundness_theory.specs.Runs.{Acts, Run, OutsideRead}
+use Rattle.soundness_theory.specs.Intervals.{interval}
+use Rattle.soundness_theory.specs.Findings.{findings}
 use Rattle.worked.specs.Systems.{ComesTo, SystemsStand}
 use Rattle.worked_scripts.specs.Scripts.{counting_to_n, counting_to_n_graph, hearing, hearing_graph, around_zero, from_to, counting_rest, counting_to_n_rest, looking_up_rest}
 use Rattle.worked_scripts.specs.declared.WorkedScript.{WorkedScript}

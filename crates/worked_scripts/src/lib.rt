@@ -3,9 +3,9 @@
 
 ghost use Rattle.std.specs.Prelude.{◌≡◌};
 ghost use Rattle.kinds.specs.Values.{bounds};
-ghost use Rattle.language.specs.Names.{Verdict};
-ghost use Rattle.language.specs.Names.Outcome.{drawn};
-ghost use Rattle.equations.specs.Bounds.{bound_book};
+ghost use Rattle.language_theory.specs.Names.{Verdict};
+ghost use Rattle.language_theory.specs.Names.Outcome.{drawn};
+ghost use Rattle.script_equations_theory.specs.Bounds.{bound_book};
 ghost use Rattle.worked.specs.Systems.{ComesTo};
 ghost use Rattle.worked_scripts.specs.Shown.{text_of, graph_of, rest_of, ScriptsStand};
 

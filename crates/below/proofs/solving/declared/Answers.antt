@@ -1,6 +1,6 @@
 use Rattle.std.proofs.Common.{◌∙◌, ◌<◌, List, ap, sym, map, replicate, length, arith}
 use Rattle.std.proofs.lemmas.List.{get_or-map, length-map}
-use Rattle.sentences.specs.declared.Variable.{Variable}
+use Rattle.parser.specs.declared.Variable.{Variable}
 use Rattle.below.specs.Spans.{span_of, only_zero, with_span}
 use Rattle.below.specs.Solving.{cap_of}
 use Rattle.below.specs.declared.spans.Span.{Span}

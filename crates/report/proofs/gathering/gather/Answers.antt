@@ -1,10 +1,10 @@
 use Rattle.std.proofs.Common.{◌≡◌, ℕ, [], ◌∷◌, ◌++◌, map, ◌∙◌, ap, length, arith}
 use Rattle.std.specs.List.{flat_map, range_with_len}
 use Rattle.books.specs.Entries.{values}
-use Rattle.reader.specs.Meaning.{meaning}
-use Rattle.soundness.specs.Findings.{findings}
-use Rattle.report_text.specs.Texts.{head_fields, row_fields, end_fields}
-use Rattle.report_text.specs.Reports.{rows_at, found_at}
+use Rattle.script_graph.specs.Meaning.{meaning}
+use Rattle.soundness_theory.specs.Findings.{findings}
+use Rattle.report_theory.specs.Texts.{head_fields, row_fields, end_fields}
+use Rattle.report_theory.specs.Reports.{rows_at, found_at}
 use Rattle.report.specs.Lines.{texts}
 use Rattle.report.proofs.Rows.{rows_more, whole, text_more}
 use Rattle.report.proofs.gathering.gather.Goals as goal

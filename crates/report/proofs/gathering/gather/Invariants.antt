@@ -1,9 +1,9 @@
 use Rattle.std.proofs.Common.{◌≡◌, [], ◌∷◌, ◌++◌, map}
 use Rattle.std.specs.List.{flat_map, range_with_len}
 use Rattle.books.specs.Entries.{values}
-use Rattle.reader.specs.Meaning.{meaning}
-use Rattle.report_text.specs.Texts.{head_fields, row_fields}
-use Rattle.report_text.specs.Reports.{rows_at}
+use Rattle.script_graph.specs.Meaning.{meaning}
+use Rattle.report_theory.specs.Texts.{head_fields, row_fields}
+use Rattle.report_theory.specs.Reports.{rows_at}
 use Rattle.report.specs.Lines.{texts}
 use Rattle.report.specs.Settles.{SettledOn}
 use Rattle.report.proofs.gathering.gather.Given as goal

@@ -1,8 +1,8 @@
 use Rattle.std.proofs.Common.{◌≡◌, ◌++◌, map, take}
 use Rattle.books.specs.Entries.{values}
-use Rattle.reader.specs.Meaning.{meaning}
-use Rattle.report_text.specs.Texts.{found_fields}
-use Rattle.report_text.specs.Reports.{found_at}
+use Rattle.script_graph.specs.Meaning.{meaning}
+use Rattle.report_theory.specs.Texts.{found_fields}
+use Rattle.report_theory.specs.Reports.{found_at}
 use Rattle.report.specs.Lines.{texts}
 use Rattle.report.specs.Settles.{SettledOn}
 use Rattle.report.proofs.gathering.push_findings.Given as goal

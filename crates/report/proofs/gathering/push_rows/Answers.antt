@@ -1,9 +1,9 @@
 use Rattle.std.proofs.Common.{◌∙◌, ◌<◌, length}
 use Rattle.std.proofs.lemmas.List.{length-map}
 use Rattle.books.specs.Entries.{values}
-use Rattle.equations.specs.Bounds.{variables_of}
-use Rattle.reader.specs.Meaning.{meaning}
-use Rattle.report_text.specs.Reports.{row_of}
+use Rattle.script_equations_theory.specs.Bounds.{variables_of}
+use Rattle.script_graph.specs.Meaning.{meaning}
+use Rattle.report_theory.specs.Reports.{row_of}
 use Rattle.report.proofs.Settled.{interval_is, grade_is}
 use Rattle.report.proofs.Rows.{row_more, row_is, named}
 use Rattle.report.proofs.gathering.push_rows.Goals as goal

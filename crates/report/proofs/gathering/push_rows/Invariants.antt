@@ -1,9 +1,9 @@
 use Rattle.std.proofs.Common.{◌≡◌, ◌++◌, map}
 use Rattle.std.specs.List.{range_with_len}
 use Rattle.books.specs.Entries.{values}
-use Rattle.reader.specs.Meaning.{meaning}
-use Rattle.report_text.specs.Texts.{row_fields}
-use Rattle.report_text.specs.Reports.{row_of}
+use Rattle.script_graph.specs.Meaning.{meaning}
+use Rattle.report_theory.specs.Texts.{row_fields}
+use Rattle.report_theory.specs.Reports.{row_of}
 use Rattle.report.specs.Lines.{texts}
 use Rattle.report.specs.Settles.{SettledOn}
 use Rattle.report.proofs.gathering.push_rows.Given as goal

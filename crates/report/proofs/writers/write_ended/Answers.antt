@@ -1,6 +1,6 @@
 use Rattle.std.proofs.Common.{arith}
 use Rattle.report.specs.Lines.{field_text}
-use Rattle.lists.proofs.Front.{front_more}
+use Rattle.base.proofs.Front.{front_more}
 use Rattle.report.proofs.writers.write_ended.Goals as goal
 
 pub returns : goal.returns

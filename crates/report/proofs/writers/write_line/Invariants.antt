@@ -1,4 +1,4 @@
-use Rattle.lists.specs.Fronts.{Front}
+use Rattle.base.specs.Fronts.{Front}
 use Rattle.report.proofs.Joining.{first}
 use Rattle.report.proofs.Ended.{ended}
 use Rattle.report.proofs.writers.write_line.Given as goal

@@ -1,4 +1,4 @@
-use Rattle.lists.specs.Fronts.{Front}
+use Rattle.base.specs.Fronts.{Front}
 use Rattle.report.specs.Lines.{line_text}
 use Rattle.report.proofs.Joining.{first}
 use Rattle.report.proofs.writers.write_lines.Given as goal

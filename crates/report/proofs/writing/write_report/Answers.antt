@@ -1,4 +1,4 @@
-use Rattle.reader.specs.Meaning.{meaning}
+use Rattle.script_graph.specs.Meaning.{meaning}
 use Rattle.report.proofs.Reporting.{answer_of}
 use Rattle.report.proofs.writing.write_report.Goals as goal
 

@@ -1,8 +1,8 @@
 use Rattle.std.proofs.Common.{◌≡◌, Bool, cond, Ok, sym, subst}
 use Rattle.books.specs.Books.{nth}
 use Rattle.books.specs.Questions.{found}
-use Rattle.equations.specs.Bounds.{uppers, lowers}
-use Rattle.reader.specs.Meaning.{meaning}
+use Rattle.script_equations_theory.specs.Bounds.{uppers, lowers}
+use Rattle.script_graph.specs.Meaning.{meaning}
 use Rattle.script_books.proofs.Edges.{upper_behind, lower_behind}
 use Rattle.script_books.proofs.bounds.behind.Goals as goal
 

@@ -1,7 +1,7 @@
 use Rattle.std.proofs.Common.{◌≡◌, true, rules, List, slice_index_or, sym, subst, ℤ, w64}
 use Rattle.std.proofs.lemmas.Int.{to_z-of_z}
 use Rattle.kinds.specs.Values.{small}
-use Rattle.sentences.specs.declared.Variable.{Variable}
+use Rattle.parser.specs.declared.Variable.{Variable}
 use Rattle.script_books.proofs.Edges.{low_small}
 use Rattle.script_books.proofs.bounds.declared.Goals as goal
 

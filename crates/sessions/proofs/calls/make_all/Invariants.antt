@@ -1,10 +1,10 @@
 use Rattle.std.proofs.Common.{◌≡◌, length, take, All}
 use Rattle.kinds.specs.Values.{bounds}
-use Rattle.strategy.specs.Lives.{begun}
+use Rattle.strategy_theory.specs.Lives.{begun}
 use Rattle.solver.specs.Answers.{IsUnplaced}
 use Rattle.solver.specs.Analyses.{state_of}
-use Rattle.equations.specs.Bounds.{bound_book}
-use Rattle.reader.specs.Meaning.{meaning}
+use Rattle.script_equations_theory.specs.Bounds.{bound_book}
+use Rattle.script_graph.specs.Meaning.{meaning}
 use Rattle.sessions.specs.Whole.{script_history}
 use Rattle.sessions.proofs.Rows.{LeadsOn}
 use Rattle.sessions.proofs.calls.make_all.Given as goal

@@ -1,8 +1,8 @@
 use Rattle.kinds.specs.Values.{bounds}
 use Rattle.kinds.specs.Laws.{bounds_laws}
-use Rattle.strategy.proofs.Lived.{lives}
-use Rattle.soundness.proofs.Sound.{sound}
-use Rattle.reader.specs.Meaning.{meaning}
+use Rattle.strategy_theory.proofs.Lived.{lives}
+use Rattle.soundness_theory.proofs.Sound.{sound}
+use Rattle.script_graph.specs.Meaning.{meaning}
 use Rattle.script_books.specs.Fitted.{graph_fits}
 use Rattle.sessions.proofs.calls.make_script_calls.Goals as goal
 

@@ -1,4 +1,4 @@
-use Rattle.strategy.specs.Lives.Call.{run}
+use Rattle.strategy_theory.specs.Lives.Call.{run}
 use Rattle.solver.specs.Analyses.{state_of}
 use Rattle.sessions.proofs.Carrying.{still_begun, lived_begun, known_on}
 use Rattle.sessions.proofs.session.rests.Goals as goal

@@ -1,6 +1,6 @@
 use Rattle.std.proofs.Common.{◌≡◌, ℕ, List, [], ◌∷◌, length, replicate, refl, ap, ap₂, ◌∙◌, rules}
 use Rattle.std.specs.List.{FoldsTo}
-use Rattle.strategy.specs.Calls.{fresh_entry}
+use Rattle.strategy_theory.specs.Calls.{fresh_entry}
 use Rattle.solver.proofs.analysis.clear.Goals as goal
 
 -- a list each item of which is d

@@ -2,9 +2,9 @@ use Rattle.std.proofs.Common.{ℕ, ◌+◌, ◌<◌, List, [], length, take, dro
 use Rattle.std.proofs.lemmas.List.{take_more_set, drop-set-lt, drop-drop}
 use Rattle.std.proofs.lemmas.List.Elements.{All-nil, All-push, All-same}
 use Rattle.books.specs.declared.Entry.{Entry}
-use Rattle.strategy.specs.Lives.{Event}
-use Rattle.strategy.specs.Calls.{state, Begins}
-use Rattle.strategy.proofs.Making.{begins}
+use Rattle.strategy_theory.specs.Lives.{Event}
+use Rattle.strategy_theory.specs.Calls.{state, Begins}
+use Rattle.strategy_theory.proofs.Making.{begins}
 use Rattle.solver.specs.Analyses.{state_of}
 use Rattle.solver.specs.Answers.{IsUnplaced, history}
 use Rattle.solver.specs.Whole.{LeadsOn}

@@ -1,10 +1,10 @@
 use Rattle.std.proofs.Common.{◌≡◌, ℕ, ◌-◌, ◌≤◌, List, length, take, drop, sym, refl, ap, ◌∙◌, subst, inl, inr, arith}
 use Rattle.std.proofs.lemmas.List.{take_at, drop_at, length-take-le}
 use Rattle.books.specs.declared.Entry.{Entry}
-use Rattle.strategy.specs.Calls.{state, unasked}
-use Rattle.strategy.specs.Lives.{Life}
-use Rattle.strategy.proofs.Keeping.{always}
-use Rattle.strategy.proofs.Lived.{lives}
+use Rattle.strategy_theory.specs.Calls.{state, unasked}
+use Rattle.strategy_theory.specs.Lives.{Life}
+use Rattle.strategy_theory.proofs.Keeping.{always}
+use Rattle.strategy_theory.proofs.Lived.{lives}
 use Rattle.solver.specs.Answers.{history}
 use Rattle.solver.proofs.calls.make_calls.Goals as goal
 use Rattle.solver.proofs.calls.make_calls.Goals.{then-list-count-via-then-list-count, then-list-count-via-else-list-count+then-answers-calls}

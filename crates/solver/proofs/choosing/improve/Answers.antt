@@ -1,7 +1,7 @@
 use Rattle.std.proofs.Common.{◌<◌, List, length, sym, ◌∙◌, subst, arith}
 use Rattle.books.specs.Entries.{Short}
 use Rattle.std.proofs.lemmas.Bool.{or_parts}
-use Rattle.strategy.proofs.Choosing.{improving_more, improved_all}
+use Rattle.strategy_theory.proofs.Choosing.{improving_more, improved_all}
 use Rattle.solver.proofs.choosing.improve.Goals as goal
 
 pub loop-unknown-preserved : goal.loop-unknown-preserved

@@ -1,6 +1,6 @@
 use Rattle.std.proofs.Common.{◌≡◌, false}
 use Rattle.books.specs.Entries.{values, Short}
-use Rattle.strategy.proofs.Choosing.{Improving}
+use Rattle.strategy_theory.proofs.Choosing.{Improving}
 use Rattle.solver.proofs.choosing.improve.Given as goal
 
 abbrev pub invariant-loop-unknown : goal.invariant-loop-unknown

@@ -1,7 +1,7 @@
 use Rattle.std.proofs.Common.{◌≡◌, Bool, true, false, not, sym, ap, ◌∙◌, rules}
 use Rattle.std.proofs.lemmas.Iterator.{cases_from_all, YieldsList-from_slice}
 use Rattle.std.proofs.lemmas.Iterator.Consumers.{YieldsList-from_enumerate}
-use Rattle.strategy.proofs.Choosing.{Under, settled_all}
+use Rattle.strategy_theory.proofs.Choosing.{Under, settled_all}
 use Rattle.books.specs.Entries.{values}
 use Rattle.solver.proofs.choosing.is_settled.Goals as goal
 

@@ -1,5 +1,5 @@
 use Rattle.books.proofs.Evaluating.{at_inside}
-use Rattle.strategy.proofs.Choosing.{switch_stays, switch_moves}
+use Rattle.strategy_theory.proofs.Choosing.{switch_stays, switch_moves}
 use Rattle.solver.proofs.choosing.switch.Goals as goal
 
 pub returns-then-at_most-clause-switches : goal.returns-then-at_most-clause-switches

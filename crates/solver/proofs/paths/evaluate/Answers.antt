@@ -1,6 +1,6 @@
 use Rattle.std.proofs.Common.{◌≡◌, ap, ◌∙◌, length, arith}
-use Rattle.strategy.specs.Steps.{opened_all}
-use Rattle.strategy.proofs.Paths.{swept_next, swept_still, swept_out, opened_choices}
+use Rattle.strategy_theory.specs.Steps.{opened_all}
+use Rattle.strategy_theory.proofs.Paths.{swept_next, swept_still, swept_out, opened_choices}
 use Rattle.solver.proofs.paths.evaluate.Goals as goal
 
 pub loop-turn-preserved : goal.loop-turn-preserved

@@ -1,5 +1,5 @@
-use Rattle.strategy.specs.Steps.{opened_all}
-use Rattle.strategy.proofs.Paths.{Swept}
+use Rattle.strategy_theory.specs.Steps.{opened_all}
+use Rattle.strategy_theory.proofs.Paths.{Swept}
 use Rattle.solver.proofs.paths.evaluate.Given as goal
 
 abbrev pub invariant-loop-turn : goal.invariant-loop-turn

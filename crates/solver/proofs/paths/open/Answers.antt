@@ -1,7 +1,7 @@
 use Rattle.std.proofs.Common.{get_or, set, sym, ap, ◌∙◌}
 use Rattle.std.proofs.lemmas.List.Edits.{map_over_more}
 use Rattle.books.specs.declared.Entry.{Entry}
-use Rattle.strategy.specs.Steps.{opened_value}
+use Rattle.strategy_theory.specs.Steps.{opened_value}
 use Rattle.solver.proofs.paths.open.Goals as goal
 
 pub loop-entry-preserved : goal.loop-entry-preserved

@@ -1,5 +1,5 @@
 use Rattle.std.proofs.Common.{◌≡◌, ◌++◌, take, drop}
-use Rattle.strategy.specs.Steps.{opened_all}
+use Rattle.strategy_theory.specs.Steps.{opened_all}
 use Rattle.solver.proofs.paths.open.Given as goal
 
 abbrev pub invariant-loop-entry : goal.invariant-loop-entry

@@ -2,8 +2,8 @@ use Rattle.std.proofs.Common.{length, ◌∙◌, sym, subst, arith}
 use Rattle.kinds.specs.Limits.{most_items}
 use Rattle.kinds.specs.Kinds.{Made}
 use Rattle.books.proofs.Sizes.{made_more}
-use Rattle.strategy.proofs.Choosing.{value_is}
-use Rattle.strategy.proofs.Paths.{relax_made, relax_same, relax_moves, revalued_choices}
+use Rattle.strategy_theory.proofs.Choosing.{value_is}
+use Rattle.strategy_theory.proofs.Paths.{relax_made, relax_same, relax_moves, revalued_choices}
 use Rattle.solver.proofs.paths.relax.Goals as goal
 
 pub returns-then-same-clause-relaxes : goal.returns-then-same-clause-relaxes

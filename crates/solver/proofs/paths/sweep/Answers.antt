@@ -1,9 +1,9 @@
 use Rattle.std.proofs.Common.{ℕ, ◌≤◌, List, length, Option, sym, ap, ◌∙◌, subst, arith}
 use Rattle.std.proofs.lemmas.Bool.{or_parts}
 use Rattle.books.specs.Entries.{values, choices, Short}
-use Rattle.strategy.specs.Strategies.{chosen}
-use Rattle.strategy.specs.Sweeping.{relaxed}
-use Rattle.strategy.proofs.Loops.{swept_more}
+use Rattle.strategy_theory.specs.Strategies.{chosen}
+use Rattle.strategy_theory.specs.Sweeping.{relaxed}
+use Rattle.strategy_theory.proofs.Loops.{swept_more}
 use Rattle.solver.proofs.paths.sweep.Goals as goal
 
 pub loop-unknown-preserved : goal.loop-unknown-preserved

@@ -1,8 +1,8 @@
 use Rattle.std.proofs.Common.{◌≡◌, false}
 use Rattle.books.specs.Entries.{values, choices}
-use Rattle.strategy.specs.Strategies.{chosen}
-use Rattle.strategy.specs.Sweeping.{swept}
-use Rattle.strategy.specs.Steps.{ShortSweep}
+use Rattle.strategy_theory.specs.Strategies.{chosen}
+use Rattle.strategy_theory.specs.Sweeping.{swept}
+use Rattle.strategy_theory.specs.Steps.{ShortSweep}
 use Rattle.solver.proofs.paths.sweep.Given as goal
 
 abbrev pub invariant-loop-unknown : goal.invariant-loop-unknown

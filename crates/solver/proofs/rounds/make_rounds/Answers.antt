@@ -1,6 +1,6 @@
 use Rattle.std.proofs.Common.{Bool, subst}
-use Rattle.strategy.specs.Steps.{ImprovesAll}
-use Rattle.strategy.proofs.Turns.{ready_long, counts_none, counts_more, ready_more}
+use Rattle.strategy_theory.specs.Steps.{ImprovesAll}
+use Rattle.strategy_theory.proofs.Turns.{ready_long, counts_none, counts_more, ready_more}
 use Rattle.solver.proofs.rounds.make_rounds.Goals as goal
 
 pub loop-rounds-init : goal.loop-rounds-init

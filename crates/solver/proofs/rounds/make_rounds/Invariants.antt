@@ -1,4 +1,4 @@
-use Rattle.strategy.specs.Steps.{Ready, Counts}
+use Rattle.strategy_theory.specs.Steps.{Ready, Counts}
 use Rattle.solver.proofs.rounds.make_rounds.Given as goal
 
 abbrev pub invariant-loop-rounds : goal.invariant-loop-rounds

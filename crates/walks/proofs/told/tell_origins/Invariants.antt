@@ -1,6 +1,6 @@
 use Rattle.std.proofs.Common.{◌≡◌, map, take}
 use Rattle.books.specs.Entries.{values}
-use Rattle.reader.specs.Meaning.{meaning}
+use Rattle.script_graph.specs.Meaning.{meaning}
 use Rattle.walks.specs.Telling.{origin_told}
 use Rattle.walks.proofs.told.tell_origins.Given as goal
 

@@ -2,10 +2,10 @@ use Rattle.std.proofs.Common.{ap, ◌∙◌}
 use Rattle.kinds.specs.Values.{bounds, grades}
 use Rattle.books.specs.Entries.{values}
 use Rattle.solver.specs.Analyses.{state_of}
-use Rattle.equations.specs.Bounds.{bound_book}
-use Rattle.equations.specs.Grades.{grade_book}
-use Rattle.reader.specs.Meaning.{meaning}
-use Rattle.reader.specs.declared.graph.Graph.{Graph}
+use Rattle.script_equations_theory.specs.Bounds.{bound_book}
+use Rattle.script_equations_theory.specs.Grades.{grade_book}
+use Rattle.script_graph.specs.Meaning.{meaning}
+use Rattle.script_graph.specs.declared.graph.Graph.{Graph}
 use Rattle.script_books.specs.declared.bounds.BoundBook.{BoundBook}
 use Rattle.script_books.specs.declared.grades.GradeBook.{GradeBook}
 use Rattle.report.specs.Lines.{texts}

@@ -1,16 +1,16 @@
 use Rattle.std.proofs.Common.{List, Ok, Err, rules, subst, sym, ◌∙◌, arith}
 use Rattle.kinds.specs.Values.{bounds}
 use Rattle.books.specs.Entries.{values}
-use Rattle.strategy.specs.Lives.Call.{question}
-use Rattle.strategy.specs.Lives.Answer.{told}
-use Rattle.strategy.specs.Promises.{GoesOn}
+use Rattle.strategy_theory.specs.Lives.Call.{question}
+use Rattle.strategy_theory.specs.Lives.Answer.{told}
+use Rattle.strategy_theory.specs.Promises.{GoesOn}
 use Rattle.solver.specs.Analyses.{state_of}
-use Rattle.equations.specs.Bounds.{bound_book}
-use Rattle.soundness.specs.Questions.{ask}
-use Rattle.soundness.specs.Questions.Question.{findings_into}
-use Rattle.soundness.specs.Questions.Told.{filled}
-use Rattle.soundness.specs.declared.Finding.{Finding}
-use Rattle.reader.specs.Meaning.{meaning}
+use Rattle.script_equations_theory.specs.Bounds.{bound_book}
+use Rattle.soundness_theory.specs.Questions.{ask}
+use Rattle.soundness_theory.specs.Questions.Question.{findings_into}
+use Rattle.soundness_theory.specs.Questions.Told.{filled}
+use Rattle.soundness_theory.specs.declared.Finding.{Finding}
+use Rattle.script_graph.specs.Meaning.{meaning}
 use Rattle.sessions.proofs.FindingsOf.{goes_on_from, taken_front, filled_long}
 use Rattle.sessions.proofs.calls.Session+Bound+BoundBook.list_findings.Goals as goal
 

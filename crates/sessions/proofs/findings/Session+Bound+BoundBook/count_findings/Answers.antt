@@ -1,7 +1,7 @@
 use Rattle.std.proofs.Common.{sym, ap, ◌+◌, ◌∙◌, arith}
 use Rattle.books.specs.Entries.{values}
-use Rattle.soundness.specs.Findings.{found_of}
-use Rattle.reader.specs.Meaning.{meaning}
+use Rattle.soundness_theory.specs.Findings.{found_of}
+use Rattle.script_graph.specs.Meaning.{meaning}
 use Rattle.sessions.proofs.Filling.{count_none, count_some}
 use Rattle.sessions.proofs.findings.Session+Bound+BoundBook.count_findings.Goals as goal
 use Rattle.sessions.proofs.findings.Session+Bound+BoundBook.count_findings.Goals.{then-is_some, else-is_some}

@@ -1,8 +1,8 @@
 use Rattle.std.proofs.Common.{◌≡◌, ◌≤◌, true, length, take}
 use Rattle.std.specs.List.{filter_map}
 use Rattle.books.specs.Entries.{values}
-use Rattle.soundness.specs.Findings.{found_of}
-use Rattle.reader.specs.Meaning.{meaning}
+use Rattle.soundness_theory.specs.Findings.{found_of}
+use Rattle.script_graph.specs.Meaning.{meaning}
 use Rattle.sessions.proofs.findings.Session+Bound+BoundBook.count_findings.Given as goal
 
 -- so many findings have the reads so far, and no more than there are reads

@@ -1,7 +1,7 @@
 use Rattle.std.proofs.Common.{◌∙◌, sym, arith}
 use Rattle.books.specs.Entries.{values}
-use Rattle.soundness.specs.Findings.{found_of}
-use Rattle.reader.specs.Meaning.{meaning}
+use Rattle.soundness_theory.specs.Findings.{found_of}
+use Rattle.script_graph.specs.Meaning.{meaning}
 use Rattle.sessions.proofs.Filling.{fill_none, fill_some, never_full}
 use Rattle.sessions.proofs.findings.Session+Bound+BoundBook.fill.Goals as goal
 use Rattle.sessions.proofs.findings.Session+Bound+BoundBook.fill.Goals.{in-Some+in_ok-push, in_default}

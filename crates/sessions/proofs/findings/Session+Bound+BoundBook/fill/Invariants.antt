@@ -1,9 +1,9 @@
 use Rattle.std.proofs.Common.{◌≡◌, true, take}
 use Rattle.std.specs.List.{filter_map}
 use Rattle.books.specs.Entries.{values}
-use Rattle.lists.specs.Fronts.{Front}
-use Rattle.soundness.specs.Findings.{found_of}
-use Rattle.reader.specs.Meaning.{meaning}
+use Rattle.base.specs.Fronts.{Front}
+use Rattle.soundness_theory.specs.Findings.{found_of}
+use Rattle.script_graph.specs.Meaning.{meaning}
 use Rattle.sessions.proofs.findings.Session+Bound+BoundBook.fill.Given as goal
 
 -- the findings of the reads so far stand at the front

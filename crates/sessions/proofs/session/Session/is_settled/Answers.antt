@@ -1,6 +1,6 @@
 use Rattle.std.proofs.Common.{sym, ◌∙◌}
 use Rattle.books.specs.Entries.{values}
-use Rattle.soundness.proofs.Settling.{settled_is}
+use Rattle.soundness_theory.proofs.Settling.{settled_is}
 use Rattle.sessions.proofs.Standing.{least_of}
 use Rattle.sessions.proofs.session.Session.is_settled.Goals as goal
 

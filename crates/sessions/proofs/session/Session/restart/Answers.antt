@@ -1,6 +1,6 @@
 use Rattle.std.proofs.Common.{sym, ◌∙◌}
-use Rattle.strategy.specs.Lives.Call.{restart}
-use Rattle.strategy.specs.Lives.Answer.{done}
+use Rattle.strategy_theory.specs.Lives.Call.{restart}
+use Rattle.strategy_theory.specs.Lives.Answer.{done}
 use Rattle.solver.specs.Analyses.{state_of}
 use Rattle.sessions.proofs.Carrying.{begun_by, lived_begun, carries_to}
 use Rattle.sessions.proofs.Standing.{long_of}

@@ -1,4 +1,4 @@
-use Rattle.strategy.specs.Lives.Call.{one_round}
+use Rattle.strategy_theory.specs.Lives.Call.{one_round}
 use Rattle.solver.specs.Answers.{progressed}
 use Rattle.solver.specs.Analyses.{state_of}
 use Rattle.sessions.proofs.Carrying.{carries, lived_on, known_on}

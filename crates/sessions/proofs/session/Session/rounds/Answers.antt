@@ -1,5 +1,5 @@
-use Rattle.strategy.specs.Lives.Call.{rounds_shown}
-use Rattle.strategy.specs.Lives.Answer.{number}
+use Rattle.strategy_theory.specs.Lives.Call.{rounds_shown}
+use Rattle.strategy_theory.specs.Lives.Answer.{number}
 use Rattle.solver.specs.Analyses.{state_of}
 use Rattle.sessions.proofs.Carrying.{carries}
 use Rattle.sessions.proofs.session.Session.rounds.Goals as goal

@@ -1,5 +1,5 @@
-use Rattle.strategy.specs.Lives.Call.{value_of}
-use Rattle.strategy.specs.Lives.Answer.{value as shown}
+use Rattle.strategy_theory.specs.Lives.Call.{value_of}
+use Rattle.strategy_theory.specs.Lives.Answer.{value as shown}
 use Rattle.solver.specs.Answers.{answered}
 use Rattle.solver.specs.Analyses.{state_of}
 use Rattle.sessions.proofs.Carrying.{carries}

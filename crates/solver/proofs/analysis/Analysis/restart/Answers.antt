@@ -1,9 +1,9 @@
 use Rattle.std.proofs.Common.{List, sym, subst}
 use Rattle.books.specs.declared.Entry.{Entry}
-use Rattle.strategy.specs.Lives.Call.{restart}
-use Rattle.strategy.specs.Lives.Answer.{done}
-use Rattle.strategy.specs.Calls.{state, Prolongs}
-use Rattle.strategy.proofs.Making.{restarts}
+use Rattle.strategy_theory.specs.Lives.Call.{restart}
+use Rattle.strategy_theory.specs.Lives.Answer.{done}
+use Rattle.strategy_theory.specs.Calls.{state, Prolongs}
+use Rattle.strategy_theory.proofs.Making.{restarts}
 use Rattle.solver.proofs.analysis.Analysis.restart.Goals as goal
 
 pub returns-clause-life : goal.returns-clause-life

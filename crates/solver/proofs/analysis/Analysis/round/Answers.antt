@@ -1,4 +1,4 @@
-use Rattle.strategy.proofs.Making.{makes_round}
+use Rattle.strategy_theory.proofs.Making.{makes_round}
 use Rattle.solver.proofs.analysis.Analysis.round.Goals as goal
 
 pub returns-clause-life : goal.returns-clause-life

@@ -1,4 +1,4 @@
-use Rattle.strategy.proofs.Making.{shows_rounds}
+use Rattle.strategy_theory.proofs.Making.{shows_rounds}
 use Rattle.solver.proofs.analysis.Analysis.rounds.Goals as goal
 
 pub returns-clause-life : goal.returns-clause-life

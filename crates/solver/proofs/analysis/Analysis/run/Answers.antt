@@ -1,7 +1,7 @@
 use Rattle.std.proofs.Common.{ℕ, ◌≤◌, refl, subst, arith, rules}
 use Rattle.kinds.specs.Limits.{most_rounds}
-use Rattle.strategy.specs.Lives.Call.{run}
-use Rattle.strategy.specs.Calls.{state, Prolongs}
+use Rattle.strategy_theory.specs.Lives.Call.{run}
+use Rattle.strategy_theory.specs.Calls.{state, Prolongs}
 use Rattle.solver.specs.Answers.{progressed}
 use Rattle.solver.specs.Analyses.{state_of}
 use Rattle.solver.proofs.Told.{told_run, told_no_run}

@@ -1,8 +1,8 @@
 use Rattle.std.proofs.Common.{◌≡◌, ℕ, List, length, sym, refl, ap, ◌∙◌, subst₂, arith}
 use Rattle.books.specs.declared.Entry.{Entry}
-use Rattle.strategy.specs.Calls.{state, fresh, Begins}
-use Rattle.strategy.proofs.Making.{begins}
-use Rattle.strategy.proofs.Stands.{stands}
+use Rattle.strategy_theory.specs.Calls.{state, fresh, Begins}
+use Rattle.strategy_theory.proofs.Making.{begins}
+use Rattle.strategy_theory.proofs.Stands.{stands}
 use Rattle.solver.proofs.analysis.Analysis.set_up.Goals as goal
 
 pub returns-in_default-clause-theory : goal.returns-in_default-clause-theory

@@ -1,6 +1,6 @@
 use Rattle.std.proofs.Common.{◌∙◌, ℤ, ap, sym, subst, length, arith, rules, w64}
 use Rattle.std.proofs.lemmas.Int.{to_z-of_z}
-use Rattle.soundness.specs.Runs.{InRange}
+use Rattle.soundness_theory.specs.Runs.{InRange}
 use Rattle.walks.specs.declared.strolls.Receiver.{Receiver}
 use Rattle.walks.proofs.Looking.{held_more}
 use Rattle.walks.proofs.strolls.Receiver.start.Goals as goal

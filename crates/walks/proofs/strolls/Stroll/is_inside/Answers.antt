@@ -1,7 +1,7 @@
 use Rattle.std.proofs.Common.{rules, arith, tests, length}
 use Rattle.std.proofs.lemmas.Iterator.{YieldsList-from_range}
 use Rattle.std.proofs.lemmas.Iterator.Search.{all_from_yields_List}
-use Rattle.soundness.specs.Runs.{of}
+use Rattle.soundness_theory.specs.Runs.{of}
 use Rattle.below.specs.Known.{known_span}
 use Rattle.walks.specs.Steps.{lies_in}
 use Rattle.walks.proofs.strolls.Stroll.is_inside.Goals as goal

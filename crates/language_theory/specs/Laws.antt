@@ -1,0 +1,36 @@
+-- What is proved of the definitions, as statements for the contracts.
+use Rattle.std.specs.Prelude.{◌≡◌, ℕ, ◌≤◌, true, List, [], length, Some, None}
+use Rattle.lexer.specs.Words.{Word, Text}
+use Rattle.language_theory.specs.Grammar.{Tree, Script, Begins}
+use Rattle.language_theory.specs.Graphs.{Graph, graph, Made, Declared, SmallTree, WellFormed}
+use Rattle.language_theory.specs.Names.{Refused, Passes, Outcome, Verdict}
+use Rattle.language_theory.specs.Names.Outcome.{drawn}
+use Rattle.language_theory.specs.Rules.{Keeps, whole}
+use Rattle.base.specs.declared.Place.{Place}
+use Rattle.language_theory.specs.Expected.{Expect, steps, accepted, at_first, Refusal, refusal}
+
+-- Words have at most one tree. What is expected next says which words begin a script, and which are one.
+pub record GrammarStands : Type 0 where
+  pub one : (ws : List Word) (t t₂ : Tree) → Script ws t → Script ws t₂ → t ≡ t₂
+  pub expected : (ws : List Word) → Begins ws → (k : List Expect) × (steps (Some at_first) ws ≡ Some k)
+  pub begins : (ws : List Word) (k : List Expect) → steps (Some at_first) ws ≡ Some k → Begins ws
+  pub finished : (ws : List Word) (t : Tree) → Script ws t → accepted (steps (Some at_first) ws) ≡ true
+  pub script : (ws : List Word) → accepted (steps (Some at_first) ws) ≡ true → (t : Tree) × Script ws t
+
+-- Every text has one verdict. The refusals at words are those that `refusal` computes.
+pub record VerdictsStand : Type 0 where
+  pub some : (bs : List ℕ) → (o : Outcome) × Verdict bs o
+  pub one : (bs : List ℕ) (o o₂ : Outcome) → Verdict bs o → Verdict bs o₂ → o ≡ o₂
+  pub refused : (t : Text) (r : Refusal) → refusal at_first [] t ≡ Some r → Refused [] t r.number r.place
+  pub passes : (t : Text) → refusal at_first [] t ≡ None → (tree : Tree) × Passes [] t tree
+  -- a text passes exactly if it is whole, and its words are the script of a tree that keeps the rules
+  pub keeps : (t : Text) (tree : Tree) → Passes [] t tree → (ws : List Word) × (p : Place) × (t ≡ whole ws p) × Script ws tree × Keeps tree
+  pub kept : (ws : List Word) (p : Place) (tree : Tree) → Script ws tree → Keeps tree → Passes [] (whole ws p) tree
+
+-- Points are numbered as made; where names are declared and constants small, as in every text that passes, graphs are
+-- well formed.
+pub record GraphsStand : Type 0 where
+  pub made : (t : Tree) → Made (graph t).edges (graph t).points
+  pub well_formed : (t : Tree) → Declared t → SmallTree t → WellFormed (graph t)
+  -- what is drawn of a text
+  pub drawn : (bs : List ℕ) (g : Graph) → Verdict bs (drawn g) → WellFormed g × (g.points ≤ 96) × (length g.variables ≤ 8) × (length g.tables ≤ 8)

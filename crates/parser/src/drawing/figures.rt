@@ -1,0 +1,68 @@
+// What several strokes draw together.
+ghost use Rattle.std.specs.Prelude.{◌≡◌, MatchResult};
+ghost use Rattle.base.specs.Reasons.{no_memory};
+ghost use Rattle.language_theory.specs.Readings.{joined_at};
+ghost use Rattle.parser.specs.Models.{vars_of, tabs_of, drawn_so, assigned};
+ghost use Rattle.parser.specs.declared.side.Side.TheVariants.{Entry};
+
+use crate::drawing::Drawing;
+use crate::names::Names;
+use crate::side::{Reading, Side};
+use base::{Place, Refusal};
+use language_theory::{Action, Range, Source};
+
+impl Drawing {
+    // A table read: index at least 0, index at most size - 1, then any of the table's range.
+    fn look_up(
+        &mut self,
+        names: &Names,
+        place: Place,
+        k: usize,
+        reading: Reading,
+    ) -> Result<(), Refusal>
+        ensures { MatchResult result (λ _. drawn_so self.new ≡ assigned (vars_of names.now) (tabs_of names.now) place k (Entry reading) (drawn_so self.old)) (λ e. e ≡ no_memory) }
+    {
+        let (size, range) = names.shape(reading.table);
+        let index = reading.index;
+        self.note(reading)?;
+        self.onward(Action::AtLeast(index, 0), place)?;
+        self.onward(Action::AtMost(index, i64::from(size) - 1), place)?;
+        self.onward(Action::Read(k, index, range), place)
+    }
+
+    // The assignment of a right side to the variable k.
+    pub(crate) fn assign(
+        &mut self,
+        names: &Names,
+        place: Place,
+        k: usize,
+        right: Side,
+    ) -> Result<(), Refusal>
+        ensures { MatchResult result (λ _. drawn_so self.new ≡ assigned (vars_of names.now) (tabs_of names.now) place k right (drawn_so self.old)) (λ e. e ≡ no_memory) }
+    {
+        match right {
+            Side::Constant(c) => self.onward(
+                Action::Any(k, Range { low: c, high: c }, Source::Written),
+                place,
+            ),
+            Side::Shifted(i, c) => self.onward(Action::Shift(k, i, c), place),
+            Side::Negated(i) => self.onward(Action::Negate(k, i), place),
+            Side::Any(source, range) => self.onward(Action::Any(k, range, source), place),
+            Side::Entry(reading) => self.look_up(names, place, k, reading),
+        }
+    }
+
+    // A fresh point with skips from the end of the first block and from here.
+    pub(crate) fn join(&mut self, first: usize, place: Place) -> Result<(), Refusal>
+        ensures { MatchResult result (λ _. drawn_so self.new ≡ joined_at place first (drawn_so self.old)) (λ e. e ≡ no_memory) }
+    {
+        let second = self.here;
+        self.stand(first);
+        self.onward(Action::Skip, place)?;
+        let joined = self.here;
+        self.stand(second);
+        self.back(joined, place)?;
+        self.stand(joined);
+        Ok(())
+    }
+}

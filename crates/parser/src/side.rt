@@ -1,0 +1,119 @@
+// The right side of an assignment.
+ghost use Rattle.std.specs.Prelude.{◌≡◌, ℕ, true, List, [], ◌∷◌, MatchResult};
+ghost use Rattle.lexer.specs.declared.Mark.TheVariants.{Becomes, CloseBracket, OpenBracket};
+ghost use Rattle.language_theory.specs.Grammar as grammar;
+ghost use Rattle.language_theory.specs.Expected.{one};
+ghost use Rattle.language_theory.specs.Expected.Expect.{just, span, right, behind_minus};
+ghost use Rattle.language_theory.specs.Expected.Terminal.{any_name};
+ghost use Rattle.language_theory.specs.Readings.{first_names, TurnsBack, Over, Quiet, KnowsNegates, is_span, is_right, is_negative, is_index};
+ghost use Rattle.parser.specs.Models.{left};
+ghost use Rattle.parser.specs.Scripts.{Reads, Halts, BehindMark, variable_in, side_in};
+
+use crate::script::Script;
+use crate::sentence::{Sentence, negative};
+use base::{Place, Reason, Refusal};
+use language_theory::{Range, Source};
+use lexer::Mark;
+
+// A table read: the numbers of the table and of the variable that is its index, and the place of the index.
+#[derive(Clone, Copy)]
+pub struct Reading {
+    pub table: usize,
+    pub index: usize,
+    pub place: Place,
+}
+
+// A right side, by the numbers of its variables and tables.
+#[derive(Clone, Copy)]
+pub enum Side {
+    Constant(i64),
+    Shifted(usize, i64),
+    Negated(usize),
+    Any(Source, Range),
+    Entry(Reading),
+}
+
+// Takes const .. const.
+pub(crate) fn read_range(s: &mut Sentence) -> Result<Range, Refusal>
+    ensures { MatchResult result (λ g. Over (span ∷ []) Quiet (is_span g) (left s.old) (left s.new)) (λ e. TurnsBack (span ∷ []) Quiet (left s.old) e) }
+{
+    let (low, _) = s.constant()?;
+    s.mark(Mark::Dots)?;
+    let (high, place) = s.constant()?;
+    if high < low {
+        return Err(Refusal::at(Reason::RangeFalls, place));
+    }
+    Ok(Range { low, high })
+}
+
+impl<'a> Script<'a> {
+    // Takes a right side.
+    pub(crate) fn read_side(&mut self) -> Result<Side, Refusal>
+        ensures { MatchResult result (λ x. (a : grammar.Side) × (x ≡ side_in self.old a) × Reads (right ∷ []) (BehindMark Becomes) (is_right a) self.old self.new) (λ e. Halts (right ∷ []) (BehindMark Becomes) self.old e) }
+    {
+        if self.sentence.at_name() {
+            return self.read_named();
+        }
+        if self.sentence.accept(Mark::Hear) {
+            return Ok(Side::Any(Source::Heard, read_range(&mut self.sentence)?));
+        }
+        if self.sentence.accept(Mark::Sense) {
+            return Ok(Side::Any(Source::Sensed, read_range(&mut self.sentence)?));
+        }
+        if self.sentence.accept(Mark::Minus) {
+            return self.read_negative();
+        }
+        let (n, _) = self.sentence.number()?;
+        Ok(Side::Constant(i64::from(n)))
+    }
+
+    // Takes what follows - at the front of a right side.
+    fn read_negative(&mut self) -> Result<Side, Refusal>
+        ensures { MatchResult result (λ x. (a : grammar.Side) × (x ≡ side_in self.old a) × Reads (behind_minus ∷ []) KnowsNegates (is_negative a) self.old self.new) (λ e. Halts (behind_minus ∷ []) KnowsNegates self.old e) }
+    {
+        if self.sentence.at_name() {
+            let (name, place) = self.sentence.name()?;
+            let i = self.names.variable(name, place)?;
+            return Ok(Side::Negated(i));
+        }
+        let (n, _) = self.sentence.number()?;
+        Ok(Side::Constant(negative(n)))
+    }
+
+    // Takes a right side that begins with a name, a table's exactly if [ follows.
+    fn read_named(&mut self) -> Result<Side, Refusal>
+        ensures { MatchResult result (λ x. (a : grammar.Side) × (x ≡ side_in self.old a) × Reads (right ∷ []) (BehindMark Becomes) (is_right a) self.old self.new) (λ e. first_names (left self.old.sentence) ≡ true → Halts (right ∷ []) (BehindMark Becomes) self.old e) }
+    {
+        let (name, place) = self.sentence.name()?;
+        if self.sentence.accept(Mark::OpenBracket) {
+            let table = self.names.table(name, place)?;
+            let (index, place) = self.read_index()?;
+            return Ok(Side::Entry(Reading {
+                table,
+                index,
+                place,
+            }));
+        }
+        let i = self.names.variable(name, place)?;
+        // Each sign by itself: one function for both would promise three outcomes, and say no more than this.
+        if self.sentence.accept(Mark::Plus) {
+            let (n, _) = self.sentence.number()?;
+            return Ok(Side::Shifted(i, i64::from(n)));
+        }
+        if self.sentence.accept(Mark::Minus) {
+            let (n, _) = self.sentence.number()?;
+            return Ok(Side::Shifted(i, negative(n)));
+        }
+        Ok(Side::Shifted(i, 0))
+    }
+
+    // Takes the index of a table read, and its bracket; answers the index and its place.
+    fn read_index(&mut self) -> Result<(usize, Place), Refusal>
+        ensures { MatchResult result (λ x. (i : List ℕ) × (x.0 ≡ variable_in self.old i) × Reads (just any_name ∷ one CloseBracket ∷ []) (BehindMark OpenBracket) (is_index i x.1) self.old self.new) (λ e. Halts (just any_name ∷ one CloseBracket ∷ []) (BehindMark OpenBracket) self.old e) }
+    {
+        let (name, place) = self.sentence.name()?;
+        let index = self.names.variable(name, place)?;
+        self.sentence.mark(Mark::CloseBracket)?;
+        Ok((index, place))
+    }
+}

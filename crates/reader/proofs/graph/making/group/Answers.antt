@@ -1,9 +1,0 @@
-use Rattle.std.proofs.Common.{◌≡◌, [], vec_items, rules}
-use Rattle.std.specs.Global.{Vec}
-use Rattle.language.specs.declared.Edge.{Edge}
-use Rattle.reader.proofs.Grouped.{each_made}
-use Rattle.reader.proofs.graph.making.group.Goals as goal
-
-pub loop-edge-init : goal.loop-edge-init
-loop-edge-init c =
-    (search rules, each_made _ (λ (v : Vec Edge). vec_items v ≡ []) _ _ _ c.in_ok-resize_with.ensures.items (search rules) (λ f g x call. search rules))

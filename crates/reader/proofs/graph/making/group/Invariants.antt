@@ -1,7 +1,0 @@
--- the edges so far stand by their targets
-use Rattle.std.proofs.Common.{◌≡◌, take, vec_len, vec_items}
-use Rattle.reader.specs.Grouping.{ByTarget}
-use Rattle.reader.proofs.graph.making.group.Given as goal
-
-abbrev pub invariant-loop-edge : goal.invariant-loop-edge
-invariant-loop-edge l = (vec_len l.incoming ≡ l.points) × ByTarget (take l.edge-index l.edges) (vec_items l.incoming)

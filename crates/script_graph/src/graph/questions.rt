@@ -1,0 +1,54 @@
+// What a graph tells.
+ghost use Rattle.std.specs.Prelude.{◌≡◌, [], if◌then◌else◌, nat_lt};
+ghost use Rattle.script_graph.specs.Grouping.{incoming as leading_to};
+
+use crate::graph::Graph;
+use language_theory::{Edge, Lookup};
+use parser::{Table, Variable};
+
+impl Graph {
+    // How many points there are; they are numbered from 0.
+    pub fn points(&self) -> usize
+        ensures { result ≡ self.now.points }
+    {
+        self.points
+    }
+
+    // The variables, in the order declared.
+    pub fn variables(&self) -> &[Variable]
+        ensures { result.now ≡ self.now.variables.items }
+    {
+        &self.variables
+    }
+
+    // The tables, in the order declared.
+    pub fn tables(&self) -> &[Table]
+        ensures { result.now ≡ self.now.tables.items }
+    {
+        &self.tables
+    }
+
+    // The edges, in the order made.
+    pub fn edges(&self) -> &[Edge]
+        ensures { result.now ≡ self.now.edges.items }
+    {
+        &self.edges
+    }
+
+    // The table reads, in the order of the text.
+    pub fn lookups(&self) -> &[Lookup]
+        ensures { result.now ≡ self.now.lookups.items }
+    {
+        &self.lookups
+    }
+
+    // The edges to a point, in the order made; none where there is no such point.
+    pub fn incoming(&self, point: usize) -> &[Edge]
+        ensures { result.now ≡ (if nat_lt point self.now.points then leading_to point self.now.edges.items else []) }
+    {
+        match self.incoming.get(point) {
+            Some(edges) => edges,
+            None => &[],
+        }
+    }
+}

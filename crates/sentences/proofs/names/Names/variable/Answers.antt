@@ -1,7 +1,0 @@
-use Rattle.std.proofs.Common.{List, ℕ, subst}
-use Rattle.sentences.specs.Models.{Finds}
-use Rattle.sentences.proofs.Naming.{names_of_vars}
-use Rattle.sentences.proofs.names.Names.variable.Goals as goal
-
-pub returns : goal.returns
-returns c = subst (λ (ns : List (List ℕ)). Finds c.args.name.now ns c.args.place c.find.result) (names_of_vars _ _ c.as_slice.ensures.value) c.find.ensures

@@ -1,6 +1,0 @@
-use Rattle.std.proofs.Common.{◌≡◌, ◌+◌, false, length, drop}
-use Rattle.words.specs.Words.{gap}
-use Rattle.words.proofs.bytes.gap_length.Given as goal
-
-abbrev pub invariant-loop-n : goal.invariant-loop-n
-invariant-loop-n l = l.n + length (gap l.comment (drop l.n l.bytes)) ≡ length (gap false l.bytes)
