@@ -98,7 +98,7 @@ fn better<K: Kind>(known: RightSide<K>, number: usize, value: K) -> RightSide<K>
 
 // The right side of an unknown; least where there is no such unknown.
 pub fn right_side<K: Kind, B: Book<K>>(book: &B, list: &[Entry<K>], unknown: usize) -> RightSide<K>
-    ensures { Short K.Kind.ops (values list.now) → Largest K.Kind.ops (values list.now) (slice_index_or (B.Book.meaning book.now) unknown []) result }
+    ensures { Short K.Kind.ops (values list.now) → Largest K.Kind.ops (values list.now) (slice_index_or (B.Book.equations book.now) unknown []) result }
 {
     let mut best = RightSide {
         value: K::least(),
@@ -116,7 +116,7 @@ pub fn right_side<K: Kind, B: Book<K>>(book: &B, list: &[Entry<K>], unknown: usi
 
 // Whether the right side of an unknown is greater than a value. It looks no further than to the first alternative that is.
 pub fn rises<K: Kind, B: Book<K>>(book: &B, list: &[Entry<K>], unknown: usize, value: K) -> bool
-    ensures { Short K.Kind.ops (values list.now) → Made K.Kind.ops most_items value → result ≡ not (K.Kind.ops.at_most (right K.Kind.ops (B.Book.meaning book.now) (values list.now) unknown) value) }
+    ensures { Short K.Kind.ops (values list.now) → Made K.Kind.ops most_items value → result ≡ not (K.Kind.ops.at_most (right K.Kind.ops (B.Book.equations book.now) (values list.now) unknown) value) }
 {
     let count = book.alternatives(unknown).unwrap_or(0);
     // By number: a book answers for one alternative at a time, and holds no list of them.

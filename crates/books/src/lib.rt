@@ -73,18 +73,18 @@ pub struct Entry<V> {
     pub choice: Option<usize>,
 }
 
-// A book of equations. It answers by its meaning, or refuses what is not there, and changes nothing.
+// A book of equations. It answers by its equations, or refuses what is not there, and changes nothing.
 pub trait Book<K: Kind> {
     // for each unknown, its alternatives
-    ghost meaning: { Self → List (List (Alternative K K.Weight)) };
+    ghost equations: { Self → List (List (Alternative K K.Weight)) };
 
     // How many unknowns there are.
     fn count(&self) -> usize
-        ensures { result ≡ length (meaning self.now) };
+        ensures { result ≡ length (equations self.now) };
 
     // How many alternatives an unknown has.
     fn alternatives(&self, unknown: usize) -> Result<usize, Refusal>
-        ensures { result ≡ counted (meaning self.now) unknown };
+        ensures { result ≡ counted (equations self.now) unknown };
 
     // An alternative of an unknown.
     fn alternative(
@@ -92,7 +92,7 @@ pub trait Book<K: Kind> {
         unknown: usize,
         number: usize,
     ) -> Result<Alternative<K, K::Weight>, Refusal>
-        ensures { result ≡ alternative_of (meaning self.now) unknown number };
+        ensures { result ≡ alternative_of (equations self.now) unknown number };
 
-    ghost well: { (b : Self) → Well K.Kind.ops (meaning b) };
+    ghost well: { (b : Self) → Well K.Kind.ops (equations b) };
 }

@@ -74,7 +74,7 @@ impl Chance {
 }
 
 impl<K: Drawn> Book<K> for Chance {
-    ghost meaning = { λ b. drawn_book K.Drawn.maker b.seed b.count };
+    ghost equations = { λ b. drawn_book K.Drawn.maker b.seed b.count };
 
     ghost well = { λ b. drawn_well K.Kind.ops K.Drawn.maker K.Drawn.sound b.seed b.count b.few };
 

@@ -47,7 +47,7 @@ fn settle<K: Kind, B: Book<K> + Copy>(
     session: &mut Session<'_, K, B>,
     budget: usize,
 ) -> Result<u16, Refusal>
-    ensures end { state_of session.old.analysis ≡ begun K.Kind.ops (B.Book.meaning session.old.book) → MatchResult result (λ k. (session.new.settled ≡ true) × SettlesWithin K.Kind.ops (B.Book.meaning session.old.book) budget k (values session.new.analysis.list.now)) (λ e. NoEnd K.Kind.ops (B.Book.meaning session.old.book) budget e) }
+    ensures end { state_of session.old.analysis ≡ begun K.Kind.ops (B.Book.equations session.old.book) → MatchResult result (λ k. (session.new.settled ≡ true) × SettlesWithin K.Kind.ops (B.Book.equations session.old.book) budget k (values session.new.analysis.list.now)) (λ e. NoEnd K.Kind.ops (B.Book.equations session.old.book) budget e) }
     ensures same_book { session.new.book ≡ session.old.book }
 {
     let progress = session.run(budget)?;

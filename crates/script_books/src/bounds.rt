@@ -78,7 +78,7 @@ fn behind(graph: &Graph, spot: Spot, upper: bool, number: usize) -> Result<Choic
 }
 
 impl Book<Bound> for BoundBook<'_> {
-    ghost meaning = { λ b. bound_book (meaning b.graph.now) };
+    ghost equations = { λ b. bound_book (meaning b.graph.now) };
 
     ghost well = { λ b. bounds_well b.graph.now };
 

@@ -111,7 +111,7 @@ fn declared(number: usize) -> Result<Choice, Refusal>
 }
 
 impl Book<Grade> for GradeBook<'_> {
-    ghost meaning = { λ b. grade_book (meaning b.graph.now) };
+    ghost equations = { λ b. grade_book (meaning b.graph.now) };
 
     ghost well = { λ b. grades_well b.graph.now };
 

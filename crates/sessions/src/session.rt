@@ -27,14 +27,14 @@ pub struct Session<'a, K: Kind, B: Book<K> + Copy> {
     pub(crate) book: B,
     pub(crate) analysis: Analysis<'a, K>,
     pub(crate) settled: bool,
-    ghost lived: { ∥ Lived K.Kind.ops (B.Book.meaning book) (state_of analysis) ∥₁ },
-    ghost known: { settled ≡ is_settled K.Kind.ops (B.Book.meaning book) (values analysis.list.now) },
+    ghost lived: { ∥ Lived K.Kind.ops (B.Book.equations book) (state_of analysis) ∥₁ },
+    ghost known: { settled ≡ is_settled K.Kind.ops (B.Book.equations book) (values analysis.list.now) },
 }
 
 // Whether an analysis that has just begun is settled: a run of no rounds tells. It is not refused, and changes nothing.
 fn rests<K: Kind, B: Book<K>>(analysis: &mut Analysis<'_, K>, book: &B) -> bool
     ensures same_list { analysis.new.list.ghost_name ≡ analysis.old.list.ghost_name }
-    ensures begun { state_of analysis.old ≡ begun K.Kind.ops (B.Book.meaning book.now) → (state_of analysis.new ≡ begun K.Kind.ops (B.Book.meaning book.now)) × (result ≡ is_settled K.Kind.ops (B.Book.meaning book.now) (values analysis.new.list.now)) }
+    ensures begun { state_of analysis.old ≡ begun K.Kind.ops (B.Book.equations book.now) → (state_of analysis.new ≡ begun K.Kind.ops (B.Book.equations book.now)) × (result ≡ is_settled K.Kind.ops (B.Book.equations book.now) (values analysis.new.list.now)) }
 {
     match analysis.run(book, 0) {
         Ok(progress) => progress.settled,
@@ -45,8 +45,8 @@ fn rests<K: Kind, B: Book<K>>(analysis: &mut Analysis<'_, K>, book: &B) -> bool
 impl<'a, K: Kind, B: Book<K> + Copy> Session<'a, K, B> {
     // A session on a book, in the front of a list: nothing is chosen, all values are least.
     pub fn set_up(book: B, list: &'a mut [Entry<K>]) -> Result<Session<'a, K, B>, Refusal>
-        ensures starts { MatchResult result (λ s. (length (B.Book.meaning book) ≤ length list.old) × (s.book ≡ book) × (state_of s.analysis ≡ begun K.Kind.ops (B.Book.meaning book))) (λ e. (length list.old < length (B.Book.meaning book)) × (e ≡ nowhere ListTooShort)) }
-        ensures life { IfOk result (λ s. Opens K.Kind.ops (B.Book.meaning book) (state_of s.analysis)) }
+        ensures starts { MatchResult result (λ s. (length (B.Book.equations book) ≤ length list.old) × (s.book ≡ book) × (state_of s.analysis ≡ begun K.Kind.ops (B.Book.equations book))) (λ e. (length list.old < length (B.Book.equations book)) × (e ≡ nowhere ListTooShort)) }
+        ensures life { IfOk result (λ s. Opens K.Kind.ops (B.Book.equations book) (state_of s.analysis)) }
     {
         let mut analysis = Analysis::set_up(&book, list)?;
         let settled = rests(&mut analysis, &book);
@@ -59,7 +59,7 @@ impl<'a, K: Kind, B: Book<K> + Copy> Session<'a, K, B> {
 
     // One round.
     pub fn round(&mut self) -> Progress
-        ensures life { CarriesOn K.Kind.ops (B.Book.meaning self.old.book) one_round (answer_with (progressed result)) (state_of self.old.analysis) (state_of self.new.analysis) }
+        ensures life { CarriesOn K.Kind.ops (B.Book.equations self.old.book) one_round (answer_with (progressed result)) (state_of self.old.analysis) (state_of self.new.analysis) }
         ensures same_book { self.new.book ≡ self.old.book }
         ensures same_list { self.new.analysis.list.ghost_name ≡ self.old.analysis.list.ghost_name }
     {
@@ -70,7 +70,7 @@ impl<'a, K: Kind, B: Book<K> + Copy> Session<'a, K, B> {
 
     // Rounds until settled or the budget is used.
     pub fn run(&mut self, budget: usize) -> Result<Progress, Refusal>
-        ensures life { CarriesOn K.Kind.ops (B.Book.meaning self.old.book) (run budget) (answer_with (answered progressed result)) (state_of self.old.analysis) (state_of self.new.analysis) }
+        ensures life { CarriesOn K.Kind.ops (B.Book.equations self.old.book) (run budget) (answer_with (answered progressed result)) (state_of self.old.analysis) (state_of self.new.analysis) }
         ensures refusal { MatchResult result (λ p. (budget ≤ most_rounds) × (p.rounds ≤ budget)) (λ e. (most_rounds < budget) × (e ≡ nowhere BudgetTooLarge) × (state_of self.new.analysis ≡ state_of self.old.analysis)) }
         ensures same_book { self.new.book ≡ self.old.book }
         ensures same_list { self.new.analysis.list.ghost_name ≡ self.old.analysis.list.ghost_name }
@@ -82,8 +82,8 @@ impl<'a, K: Kind, B: Book<K> + Copy> Session<'a, K, B> {
 
     // Takes all choices back: as after set-up.
     pub fn restart(&mut self)
-        ensures life { CarriesOn K.Kind.ops (B.Book.meaning self.old.book) restart done (state_of self.old.analysis) (state_of self.new.analysis) }
-        ensures fresh { state_of self.new.analysis ≡ begun K.Kind.ops (B.Book.meaning self.old.book) }
+        ensures life { CarriesOn K.Kind.ops (B.Book.equations self.old.book) restart done (state_of self.old.analysis) (state_of self.new.analysis) }
+        ensures fresh { state_of self.new.analysis ≡ begun K.Kind.ops (B.Book.equations self.old.book) }
         ensures same_book { self.new.book ≡ self.old.book }
         ensures same_list { self.new.analysis.list.ghost_name ≡ self.old.analysis.list.ghost_name }
     {
@@ -93,16 +93,16 @@ impl<'a, K: Kind, B: Book<K> + Copy> Session<'a, K, B> {
 
     // Whether it is settled. Then it shows the least solution.
     pub fn is_settled(&self) -> bool
-        ensures value { result ≡ is_settled K.Kind.ops (B.Book.meaning self.now.book) (values self.now.analysis.list.now) }
-        ensures same { (result ≡ true) ↔ Settled K.Kind.ops (B.Book.meaning self.now.book) (values self.now.analysis.list.now) }
-        ensures least { result ≡ true → Least K.Kind.ops (B.Book.meaning self.now.book) (values self.now.analysis.list.now) }
+        ensures value { result ≡ is_settled K.Kind.ops (B.Book.equations self.now.book) (values self.now.analysis.list.now) }
+        ensures same { (result ≡ true) ↔ Settled K.Kind.ops (B.Book.equations self.now.book) (values self.now.analysis.list.now) }
+        ensures least { result ≡ true → Least K.Kind.ops (B.Book.equations self.now.book) (values self.now.analysis.list.now) }
     {
         self.settled
     }
 
     // The value of an unknown.
     pub fn value(&self, unknown: usize) -> Result<K, Refusal>
-        ensures life { CarriesOn K.Kind.ops (B.Book.meaning self.now.book) (value_of unknown) (answer_with (answered shown result)) (state_of self.now.analysis) (state_of self.now.analysis) }
+        ensures life { CarriesOn K.Kind.ops (B.Book.equations self.now.book) (value_of unknown) (answer_with (answered shown result)) (state_of self.now.analysis) (state_of self.now.analysis) }
         ensures answer { Shows K.Kind.ops self.now.analysis.list.now unknown result }
     {
         self.analysis.value(unknown)
@@ -110,7 +110,7 @@ impl<'a, K: Kind, B: Book<K> + Copy> Session<'a, K, B> {
 
     // The alternative that an unknown has chosen, if any.
     pub fn choice(&self, unknown: usize) -> Result<Option<usize>, Refusal>
-        ensures life { CarriesOn K.Kind.ops (B.Book.meaning self.now.book) (choice_of unknown) (answer_with (answered chosen result)) (state_of self.now.analysis) (state_of self.now.analysis) }
+        ensures life { CarriesOn K.Kind.ops (B.Book.equations self.now.book) (choice_of unknown) (answer_with (answered chosen result)) (state_of self.now.analysis) (state_of self.now.analysis) }
         ensures answer { ShowsChoice self.now.analysis.list.now unknown result }
     {
         self.analysis.choice(unknown)
@@ -118,7 +118,7 @@ impl<'a, K: Kind, B: Book<K> + Copy> Session<'a, K, B> {
 
     // The counted rounds since set-up or restart, 65,535 if more.
     pub fn rounds(&self) -> u16
-        ensures life { CarriesOn K.Kind.ops (B.Book.meaning self.now.book) rounds_shown (number result) (state_of self.now.analysis) (state_of self.now.analysis) }
+        ensures life { CarriesOn K.Kind.ops (B.Book.equations self.now.book) rounds_shown (number result) (state_of self.now.analysis) (state_of self.now.analysis) }
         ensures answer { result ≡ self.now.analysis.rounds }
     {
         self.analysis.rounds()
@@ -126,7 +126,7 @@ impl<'a, K: Kind, B: Book<K> + Copy> Session<'a, K, B> {
 
     // Makes one of the calls of every analysis.
     pub(crate) fn make(&mut self, call: Call) -> Result<Answer<K>, Refusal>
-        ensures life { CarriesOn K.Kind.ops (B.Book.meaning self.old.book) (call_with (call_of call)) (answer_with (answer_of result)) (state_of self.old.analysis) (state_of self.new.analysis) }
+        ensures life { CarriesOn K.Kind.ops (B.Book.equations self.old.book) (call_with (call_of call)) (answer_with (answer_of result)) (state_of self.old.analysis) (state_of self.new.analysis) }
         ensures unplaced { IsUnplaced result }
         ensures same_book { self.new.book ≡ self.old.book }
         ensures same_list { self.new.analysis.list.ghost_name ≡ self.old.analysis.list.ghost_name }

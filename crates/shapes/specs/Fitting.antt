@@ -12,7 +12,7 @@ use Rattle.books.specs.declared.Alternative.{Alternative}
 use Rattle.books.proofs.Worth.{no_option}
 use Rattle.books.proofs.Asked.{some_same}
 use Rattle.books.proofs.Rows.{rows_long, row_inside, row_past, each_term}
-use Rattle.shapes.specs.Shapes.{ground_of, over, capped, chain, backward, ring, grid, height, entry_to, row, equations}
+use Rattle.shapes.specs.Shapes.{ground_of, over, capped, chain, backward, ring, grid, height, entry_to, row, family_equations}
 use Rattle.shapes.specs.declared.forms.Shape.{Shape}
 use Rattle.shapes.specs.declared.forms.Shape.TheVariants.{Chain, Reverse, Ring, Grid}
 
@@ -89,21 +89,21 @@ module _ (n : ℕ) where
   row_fits Grid u s h = grid_fits u s h
 
   -- all alternatives of an unknown, of those past the end too
-  all_fits : (t : Shape) (u : ℕ) → n ≤ most_unknowns → RowFits most_alternatives (slice_index_or (equations t n) u [])
+  all_fits : (t : Shape) (u : ℕ) → n ≤ most_unknowns → RowFits most_alternatives (slice_index_or (family_equations t n) u [])
   all_fits t u s = go (nat_lt u n) refl
     where
-      go : (b : Bool) → nat_lt u n ≡ b → RowFits most_alternatives (slice_index_or (equations t n) u [])
+      go : (b : Bool) → nat_lt u n ≡ b → RowFits most_alternatives (slice_index_or (family_equations t n) u [])
       go true e =
           let h = ltb-true u n e in
           subst (λ (l : List (Alternative Bound ℤ)). RowFits most_alternatives l) (sym (row_inside (row t n) n u h)) (row_fits t u s h)
       go false e =
           subst (λ (l : List (Alternative Bound ℤ)). RowFits most_alternatives l) (sym (row_past (row t n) n u (ltb-false u n e))) (record { few = omega arith; fine = tt })
 
-pub fits : (t : Shape) (n : ℕ) → n ≤ most_unknowns → Well bounds (equations t n)
+pub fits : (t : Shape) (n : ℕ) → n ≤ most_unknowns → Well bounds (family_equations t n)
 fits t n s =
     let e = rows_long (row t n) n in
     record {
       small = omega arith;
       few = λ u. (all_fits n t u s).few;
-      fine = λ u k a i. subst (λ (m : ℕ). WellAlternative bounds m a) (sym e) (each_nth (WellAlternative bounds n) (slice_index_or (equations t n) u []) k a (all_fits n t u s).fine i);
+      fine = λ u k a i. subst (λ (m : ℕ). WellAlternative bounds m a) (sym e) (each_nth (WellAlternative bounds n) (slice_index_or (family_equations t n) u []) k a (all_fits n t u s).fine i);
     }

@@ -60,5 +60,5 @@ row Ring n k = ring n k
 row Grid n k = grid k
 
 -- the book of n unknowns of a shape
-abbrev pub equations : Shape → ℕ → List (List (Alternative Bound ℤ))
-equations s n = map (row s n) (range_with_len 0 n)
+abbrev pub family_equations : Shape → ℕ → List (List (Alternative Bound ℤ))
+family_equations s n = map (row s n) (range_with_len 0 n)

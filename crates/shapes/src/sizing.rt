@@ -3,7 +3,7 @@ ghost use Rattle.std.specs.Prelude.{◌≡◌, ◌<◌, ◌≤◌, min, MatchRes
 ghost use Rattle.kinds.specs.Limits.{most_unknowns};
 ghost use Rattle.base.specs.Reasons.{nowhere};
 ghost use Rattle.base.specs.declared.Reason.TheVariants.{NotThere};
-ghost use Rattle.shapes.specs.Shapes.{equations};
+ghost use Rattle.shapes.specs.Shapes.{family_equations};
 ghost use Rattle.shapes.specs.Fitting.{fits};
 
 use crate::forms::Shape;
@@ -49,7 +49,7 @@ impl Shaped {
 }
 
 impl Book<Bound> for Shaped {
-    ghost meaning = { λ b. equations b.shape b.size };
+    ghost equations = { λ b. family_equations b.shape b.size };
 
     ghost well = { λ b. fits b.shape b.size b.within };
 

@@ -53,7 +53,7 @@ impl<'a, K: Kind> Analysis<'a, K> {
         book: &B,
         list: &'a mut [Entry<K>],
     ) -> Result<Analysis<'a, K>, Refusal>
-        ensures starts { MatchResult result (λ a. (length (B.Book.meaning book.now) ≤ length list.old) × (a.list.now ≡ fresh K.Kind.ops (length (B.Book.meaning book.now))) × (a.rounds ≡ 0) × Begins K.Kind.ops (B.Book.meaning book.now) (state_of a)) (λ e. (length list.old < length (B.Book.meaning book.now)) × (e ≡ nowhere ListTooShort)) }
+        ensures starts { MatchResult result (λ a. (length (B.Book.equations book.now) ≤ length list.old) × (a.list.now ≡ fresh K.Kind.ops (length (B.Book.equations book.now))) × (a.rounds ≡ 0) × Begins K.Kind.ops (B.Book.equations book.now) (state_of a)) (λ e. (length list.old < length (B.Book.equations book.now)) × (e ≡ nowhere ListTooShort)) }
         ensures theory { Stands K.Kind.ops }
     {
         let Some(front) = list.get_mut(0..book.count()) else {
@@ -65,7 +65,7 @@ impl<'a, K: Kind> Analysis<'a, K> {
     // Rounds until settled or the budget is used, counted.
     fn advance<B: Book<K>>(&mut self, book: &B, budget: u16) -> Progress
         ensures same_list { self.new.list.ghost_name ≡ self.old.list.ghost_name }
-        ensures ran { Ready K.Kind.ops (B.Book.meaning book.now) self.old.list.now → Ran K.Kind.ops (B.Book.meaning book.now) budget self.old.list.now result.rounds result.settled self.new.list.now }
+        ensures ran { Ready K.Kind.ops (B.Book.equations book.now) self.old.list.now → Ran K.Kind.ops (B.Book.equations book.now) budget self.old.list.now result.rounds result.settled self.new.list.now }
         ensures within { result.rounds ≤ budget }
         ensures counted { self.new.rounds ≡ min (self.old.rounds + result.rounds) most_rounds }
     {
@@ -76,7 +76,7 @@ impl<'a, K: Kind> Analysis<'a, K> {
 
     // One round.
     pub fn round<B: Book<K>>(&mut self, book: &B) -> Progress
-        ensures life { Prolongs K.Kind.ops (B.Book.meaning book.now) one_round (progressed result) (state_of self.old) (state_of self.new) }
+        ensures life { Prolongs K.Kind.ops (B.Book.equations book.now) one_round (progressed result) (state_of self.old) (state_of self.new) }
         ensures same_list { self.new.list.ghost_name ≡ self.old.list.ghost_name }
     {
         self.advance(book, 1)
@@ -84,7 +84,7 @@ impl<'a, K: Kind> Analysis<'a, K> {
 
     // Rounds until settled or the budget is used.
     pub fn run<B: Book<K>>(&mut self, book: &B, budget: usize) -> Result<Progress, Refusal>
-        ensures life { Prolongs K.Kind.ops (B.Book.meaning book.now) (run budget) (answered progressed result) (state_of self.old) (state_of self.new) }
+        ensures life { Prolongs K.Kind.ops (B.Book.equations book.now) (run budget) (answered progressed result) (state_of self.old) (state_of self.new) }
         ensures refusal { MatchResult result (λ p. (budget ≤ most_rounds) × (p.rounds ≤ budget)) (λ e. (most_rounds < budget) × (e ≡ nowhere BudgetTooLarge) × (state_of self.new ≡ state_of self.old)) }
         ensures same_list { self.new.list.ghost_name ≡ self.old.list.ghost_name }
     {

@@ -36,7 +36,7 @@ pub enum Answer<K> {
 impl<'a, K: Kind> Analysis<'a, K> {
     // Makes one call.
     fn make<B: Book<K>>(&mut self, book: &B, call: Call) -> Result<Answer<K>, Refusal>
-        ensures life { Prolongs K.Kind.ops (B.Book.meaning book.now) (call_of call) (answer_of result) (state_of self.old) (state_of self.new) }
+        ensures life { Prolongs K.Kind.ops (B.Book.equations book.now) (call_of call) (answer_of result) (state_of self.old) (state_of self.new) }
         ensures same_list { self.new.list.ghost_name ≡ self.old.list.ghost_name }
         ensures unplaced { IsUnplaced result }
     {
@@ -62,7 +62,7 @@ fn make_all<K: Kind, B: Book<K>>(
     answers: &mut [Result<Answer<K>, Refusal>],
 ) -> u16
     requires { length calls.now ≤ length answers.old }
-    ensures life { length list.old ≡ length (B.Book.meaning book.now) → LeadsOn K.Kind.ops (B.Book.meaning book.now) (history calls.now (take (length calls.now) answers.new)) (state list.new result) }
+    ensures life { length list.old ≡ length (B.Book.equations book.now) → LeadsOn K.Kind.ops (B.Book.equations book.now) (history calls.now (take (length calls.now) answers.new)) (state list.new result) }
     ensures unplaced { All IsUnplaced (take (length calls.now) answers.new) }
     ensures behind { drop (length calls.now) answers.new ≡ drop (length calls.now) answers.old }
 {
@@ -83,7 +83,7 @@ pub fn make_calls<K: Kind, B: Book<K>>(
     calls: &[Call],
     answers: &mut [Result<Answer<K>, Refusal>],
 ) -> Result<u16, Refusal>
-    ensures whole { MatchResult result (λ n. LivedThrough K.Kind.ops (B.Book.meaning book.now) calls.now list.old answers.old n list.new answers.new) (λ e. TurnedBack K.Kind.ops (B.Book.meaning book.now) calls.now list.old answers.old e list.new answers.new) }
+    ensures whole { MatchResult result (λ n. LivedThrough K.Kind.ops (B.Book.equations book.now) calls.now list.old answers.old n list.new answers.new) (λ e. TurnedBack K.Kind.ops (B.Book.equations book.now) calls.now list.old answers.old e list.new answers.new) }
     ensures law { LivesStand K.Kind.ops ⊥ ⊥ }
 {
     let count = book.count();

@@ -11,7 +11,7 @@ use kinds::Kind;
 
 // Switches one unknown to the first alternative that reaches its right side, if that is greater than its value. Says whether it did.
 fn switch<K: Kind, B: Book<K>>(book: &B, list: &mut [Entry<K>], unknown: usize) -> bool
-    ensures switches { Short K.Kind.ops (values list.old) → unknown < length list.old → Switches K.Kind.ops (B.Book.meaning book.now) list.old unknown result list.new }
+    ensures switches { Short K.Kind.ops (values list.old) → unknown < length list.old → Switches K.Kind.ops (B.Book.equations book.now) list.old unknown result list.new }
     ensures still { result ≡ false → list.new ≡ list.old }
 {
     let best = right_side(book, list, unknown);
@@ -28,7 +28,7 @@ fn switch<K: Kind, B: Book<K>>(book: &B, list: &mut [Entry<K>], unknown: usize) 
 
 // Switches every unknown whose right side is greater than its value. Says whether any switched.
 pub(crate) fn improve<K: Kind, B: Book<K>>(book: &B, list: &mut [Entry<K>]) -> bool
-    ensures improves { Short K.Kind.ops (values list.old) → length list.old ≡ length (B.Book.meaning book.now) → ImprovesAll K.Kind.ops (B.Book.meaning book.now) list.old result list.new }
+    ensures improves { Short K.Kind.ops (values list.old) → length list.old ≡ length (B.Book.equations book.now) → ImprovesAll K.Kind.ops (B.Book.equations book.now) list.old result list.new }
     ensures still { result ≡ false → list.new ≡ list.old }
 {
     let mut switched = false;
@@ -41,7 +41,7 @@ pub(crate) fn improve<K: Kind, B: Book<K>>(book: &B, list: &mut [Entry<K>]) -> b
 
 // Whether no right side is greater than its value. It looks no further than to the first that is.
 pub(crate) fn is_settled<K: Kind, B: Book<K>>(book: &B, list: &[Entry<K>]) -> bool
-    ensures { Short K.Kind.ops (values list.now) → length list.now ≡ length (B.Book.meaning book.now) → (result ≡ true) ↔ Settled K.Kind.ops (B.Book.meaning book.now) (values list.now) }
+    ensures { Short K.Kind.ops (values list.now) → length list.now ≡ length (B.Book.equations book.now) → (result ≡ true) ↔ Settled K.Kind.ops (B.Book.equations book.now) (values list.now) }
 {
     list.iter().enumerate().all(|(unknown, entry)| !rises(book, list, unknown, entry.value))
 }

@@ -15,7 +15,7 @@ fn chosen<K: Kind, B: Book<K>>(
     list: &[Entry<K>],
     unknown: usize,
 ) -> Option<Alternative<K, K::Weight>>
-    ensures value { result ≡ chosen_of (B.Book.meaning book.now) (choices list.now) unknown }
+    ensures value { result ≡ chosen_of (B.Book.equations book.now) (choices list.now) unknown }
     ensures inside { OnSome result (unknown < length list.now) }
 {
     let number = list.get(unknown)?.choice?;
@@ -24,7 +24,7 @@ fn chosen<K: Kind, B: Book<K>>(
 
 // Gives one unknown the smaller of its chosen terms. Says whether its value changed.
 fn relax<K: Kind, B: Book<K>>(book: &B, list: &mut [Entry<K>], unknown: usize) -> bool
-    ensures relaxes { Short K.Kind.ops (values list.old) → Relaxes K.Kind.ops (B.Book.meaning book.now) list.old unknown list.new }
+    ensures relaxes { Short K.Kind.ops (values list.old) → Relaxes K.Kind.ops (B.Book.equations book.now) list.old unknown list.new }
     ensures strategy { choices list.new ≡ choices list.old }
     ensures still { result ≡ false → list.new ≡ list.old }
 {
@@ -50,7 +50,7 @@ fn same<K: Kind>(value: K, other: K) -> bool
 // Gives every unknown the smaller of its chosen terms, in order and in place. Says whether a value changed.
 // Not one loop with `improve` over a closure: the invariants differ, and a shared loop would have to state one for every closure.
 fn sweep<K: Kind, B: Book<K>>(book: &B, list: &mut [Entry<K>]) -> bool
-    ensures sweeps { ShortSweep K.Kind.ops (B.Book.meaning book.now) list.old → SweepsAll K.Kind.ops (B.Book.meaning book.now) list.old list.new }
+    ensures sweeps { ShortSweep K.Kind.ops (B.Book.equations book.now) list.old → SweepsAll K.Kind.ops (B.Book.equations book.now) list.old list.new }
     ensures strategy { choices list.new ≡ choices list.old }
     ensures still { result ≡ false → list.new ≡ list.old }
 {
@@ -83,7 +83,7 @@ fn open<K: Kind>(list: &mut [Entry<K>])
 
 // Gives every unknown its value by the strategy. It stops at the first sweep that changes nothing, and makes no more sweeps than there are unknowns.
 pub(crate) fn evaluate<K: Kind, B: Book<K>>(book: &B, list: &mut [Entry<K>])
-    ensures values { Evaluates K.Kind.ops (B.Book.meaning book.now) list.old list.new }
+    ensures values { Evaluates K.Kind.ops (B.Book.equations book.now) list.old list.new }
     ensures strategy { choices list.new ≡ choices list.old }
 {
     open(list);

@@ -21,7 +21,7 @@ pub(crate) fn make_rounds<K: Kind, B: Book<K>>(
     list: &mut [Entry<K>],
     budget: u16,
 ) -> Progress
-    ensures ran { Ready K.Kind.ops (B.Book.meaning book.now) list.old → Ran K.Kind.ops (B.Book.meaning book.now) budget list.old result.rounds result.settled list.new }
+    ensures ran { Ready K.Kind.ops (B.Book.equations book.now) list.old → Ran K.Kind.ops (B.Book.equations book.now) budget list.old result.rounds result.settled list.new }
     ensures within { result.rounds ≤ budget }
 {
     for rounds in 0..budget {

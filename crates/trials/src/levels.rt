@@ -178,8 +178,8 @@ fn add_equations<K: Plain, B: Book<K>>(
     book: &B,
     unknown: usize,
 ) -> Result<(), Refusal>
-    ensures added { OnOk result (all.new.items ≡ all.old.items ++ map (equation_of K.Plain.reading unknown) (slice_index_or (B.Book.meaning book.now) unknown [])) }
-    ensures refusal { unknown < length (B.Book.meaning book.now) → IsOkUnless result no_memory }
+    ensures added { OnOk result (all.new.items ≡ all.old.items ++ map (equation_of K.Plain.reading unknown) (slice_index_or (B.Book.equations book.now) unknown [])) }
+    ensures refusal { unknown < length (B.Book.equations book.now) → IsOkUnless result no_memory }
 {
     // By number: a book answers for one alternative at a time.
     for number in 0..book.alternatives(unknown)? {
@@ -193,7 +193,7 @@ pub fn read_equations<K: Plain, B: Book<K>>(
     heap: Global,
     book: &B,
 ) -> Result<Vec<Equation>, Refusal>
-    ensures read { IfOk result (λ all. all.items ≡ equations_from K.Plain.reading 0 (B.Book.meaning book.now)) }
+    ensures read { IfOk result (λ all. all.items ≡ equations_from K.Plain.reading 0 (B.Book.equations book.now)) }
     ensures refusal { IsOkUnless result no_memory }
 {
     let mut all = Vec::new(heap);

@@ -127,7 +127,7 @@ impl<'a, K: Plain, B: Book<K>> Living<'a, K, B> {
         book: &'a B,
         list: &'a mut [Entry<K>],
     ) -> Result<Living<'a, K, B>, Refusal>
-        ensures { MatchResult result (λ living. (living.analysis.list.now ≡ replicate (long (B.Book.meaning book.now)) (record { value = K.Kind.ops.least; choice = None })) × (living.analysis.rounds ≡ 0)) (λ e. (long list.old < long (B.Book.meaning book.now)) × (e ≡ nowhere ListTooShort)) }
+        ensures { MatchResult result (λ living. (living.analysis.list.now ≡ replicate (long (B.Book.equations book.now)) (record { value = K.Kind.ops.least; choice = None })) × (living.analysis.rounds ≡ 0)) (λ e. (long list.old < long (B.Book.equations book.now)) × (e ≡ nowhere ListTooShort)) }
     {
         let analysis = Analysis::set_up(book, list)?;
         Ok(Living {
@@ -139,8 +139,8 @@ impl<'a, K: Plain, B: Book<K>> Living<'a, K, B> {
 
     // Its life after these runs.
     fn after(&self, course: Course) -> Result<Life, Refusal>
-        ensures life { IfOk result (λ life. (life.course ≡ course) × Tells K.Plain.reading.level_of (long (B.Book.meaning self.now.book.now)) self.now.analysis.rounds self.now.analysis.list.now life) }
-        ensures refusal { long (B.Book.meaning self.now.book.now) ≤ long self.now.analysis.list.now → IsOkUnless result no_memory }
+        ensures life { IfOk result (λ life. (life.course ≡ course) × Tells K.Plain.reading.level_of (long (B.Book.equations self.now.book.now)) self.now.analysis.rounds self.now.analysis.list.now life) }
+        ensures refusal { long (B.Book.equations self.now.book.now) ≤ long self.now.analysis.list.now → IsOkUnless result no_memory }
     {
         Ok(Life {
             course,
@@ -151,8 +151,8 @@ impl<'a, K: Plain, B: Book<K>> Living<'a, K, B> {
 
     // One run with the largest budget.
     pub fn whole(&mut self) -> Result<Life, Refusal>
-        ensures life { IfOk result (λ life. (life.course.within ≡ true) × Tells K.Plain.reading.level_of (long (B.Book.meaning self.new.book.now)) self.new.analysis.rounds self.new.analysis.list.now life) }
-        ensures refusal { long (B.Book.meaning self.new.book.now) ≤ long self.new.analysis.list.now → IsOkUnless result no_memory }
+        ensures life { IfOk result (λ life. (life.course.within ≡ true) × Tells K.Plain.reading.level_of (long (B.Book.equations self.new.book.now)) self.new.analysis.rounds self.new.analysis.list.now life) }
+        ensures refusal { long (B.Book.equations self.new.book.now) ≤ long self.new.analysis.list.now → IsOkUnless result no_memory }
     {
         let progress = self.analysis.run(self.book, MOST_ROUNDS)?;
         self.after(Course::NONE.and(MOST_ROUNDS, progress))
@@ -160,8 +160,8 @@ impl<'a, K: Plain, B: Book<K>> Living<'a, K, B> {
 
     // From a restart, one run with the largest budget.
     pub fn again(&mut self) -> Result<Life, Refusal>
-        ensures life { IfOk result (λ life. (life.course.within ≡ true) × Tells K.Plain.reading.level_of (long (B.Book.meaning self.new.book.now)) self.new.analysis.rounds self.new.analysis.list.now life) }
-        ensures refusal { long (B.Book.meaning self.new.book.now) ≤ long self.new.analysis.list.now → IsOkUnless result no_memory }
+        ensures life { IfOk result (λ life. (life.course.within ≡ true) × Tells K.Plain.reading.level_of (long (B.Book.equations self.new.book.now)) self.new.analysis.rounds self.new.analysis.list.now life) }
+        ensures refusal { long (B.Book.equations self.new.book.now) ≤ long self.new.analysis.list.now → IsOkUnless result no_memory }
     {
         self.analysis.restart();
         self.whole()
@@ -169,7 +169,7 @@ impl<'a, K: Plain, B: Book<K>> Living<'a, K, B> {
 
     // From a restart, runs with the budgets 1, 2, 3 and so on, until settled.
     pub fn in_pieces(&mut self) -> Result<Life, Refusal>
-        ensures { IfOk result (λ life. Tells K.Plain.reading.level_of (long (B.Book.meaning self.new.book.now)) self.new.analysis.rounds self.new.analysis.list.now life) }
+        ensures { IfOk result (λ life. Tells K.Plain.reading.level_of (long (B.Book.equations self.new.book.now)) self.new.analysis.rounds self.new.analysis.list.now life) }
     {
         self.analysis.restart();
         let course = runs(|course, number| {
@@ -180,7 +180,7 @@ impl<'a, K: Plain, B: Book<K>> Living<'a, K, B> {
 
     // From a restart, one round at a time, until settled.
     pub fn by_rounds(&mut self) -> Result<Life, Refusal>
-        ensures { IfOk result (λ life. Tells K.Plain.reading.level_of (long (B.Book.meaning self.new.book.now)) self.new.analysis.rounds self.new.analysis.list.now life) }
+        ensures { IfOk result (λ life. Tells K.Plain.reading.level_of (long (B.Book.equations self.new.book.now)) self.new.analysis.rounds self.new.analysis.list.now life) }
     {
         self.analysis.restart();
         let course = runs(|course, _| Ok(course.and(1, self.analysis.round(self.book))))?;

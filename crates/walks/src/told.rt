@@ -35,7 +35,7 @@ pub const NO_FINDING: Finding = Finding {
 
 // A list to lend, of entries that no session has written yet.
 pub fn blank<K: Kind, B: Book<K>>(heap: Global, book: &B) -> Result<Vec<Entry<K>>, Refusal>
-    ensures { MatchResult result (λ entries. vec_len entries ≡ length (B.Book.meaning book.now)) (λ e. e ≡ no_memory) }
+    ensures { MatchResult result (λ entries. vec_len entries ≡ length (B.Book.equations book.now)) (λ e. e ≡ no_memory) }
 {
     let entry = Entry {
         value: K::greatest(),

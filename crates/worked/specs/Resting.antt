@@ -11,7 +11,7 @@ use Rattle.kinds.specs.Laws.{bounds_laws, grades_laws}
 use Rattle.kinds.proofs.Sizes.{made_sized}
 use Rattle.books.specs.Books.{at}
 use Rattle.strategy_theory.proofs.Keeping.{promised}
-use Rattle.worked.specs.Systems.{ComesTo, equations, rest_of, copying_grades, resting_grades, SystemsStand, BoundedLives}
+use Rattle.worked.specs.Systems.{ComesTo, system_equations, rest_of, copying_grades, resting_grades, SystemsStand, BoundedLives}
 use Rattle.worked.specs.declared.systems.System.{System}
 use Rattle.worked.specs.declared.systems.System.TheVariants.{Nothing, Copying, Capped, Growing, Groundless, Falling}
 use Rattle.worked.specs.Play.{comes_to}
@@ -25,16 +25,16 @@ rounds_of Growing = 2
 rounds_of Groundless = 0
 rounds_of Falling = 1
 
-rests : (t : System) → ComesTo bounds (equations t) (rounds_of t) (rest_of t)
-rests Nothing = comes_to bounds bounds_laws (equations Nothing) refl 0 (rest_of Nothing) refl refl refl
-rests Copying = comes_to bounds bounds_laws (equations Copying) refl 2 (rest_of Copying) refl refl refl
-rests Capped = comes_to bounds bounds_laws (equations Capped) refl 2 (rest_of Capped) refl refl refl
-rests Growing = comes_to bounds bounds_laws (equations Growing) refl 2 (rest_of Growing) refl refl refl
-rests Groundless = comes_to bounds bounds_laws (equations Groundless) refl 0 (rest_of Groundless) refl refl refl
-rests Falling = comes_to bounds bounds_laws (equations Falling) refl 1 (rest_of Falling) refl refl refl
+rests : (t : System) → ComesTo bounds (system_equations t) (rounds_of t) (rest_of t)
+rests Nothing = comes_to bounds bounds_laws (system_equations Nothing) refl 0 (rest_of Nothing) refl refl refl
+rests Copying = comes_to bounds bounds_laws (system_equations Copying) refl 2 (rest_of Copying) refl refl refl
+rests Capped = comes_to bounds bounds_laws (system_equations Capped) refl 2 (rest_of Capped) refl refl refl
+rests Growing = comes_to bounds bounds_laws (system_equations Growing) refl 2 (rest_of Growing) refl refl refl
+rests Groundless = comes_to bounds bounds_laws (system_equations Groundless) refl 0 (rest_of Groundless) refl refl refl
+rests Falling = comes_to bounds bounds_laws (system_equations Falling) refl 1 (rest_of Falling) refl refl refl
 
-pub rests_after : (t : System) {k : ℕ} → rounds_of t ≡ k → ComesTo bounds (equations t) k (rest_of t)
-rests_after t e = subst (λ (n : ℕ). ComesTo bounds (equations t) n (rest_of t)) e (rests t)
+pub rests_after : (t : System) {k : ℕ} → rounds_of t ≡ k → ComesTo bounds (system_equations t) k (rest_of t)
+rests_after t e = subst (λ (n : ℕ). ComesTo bounds (system_equations t) n (rest_of t)) e (rests t)
 
 pub grades_rest : ComesTo grades copying_grades 2 resting_grades
 grades_rest = comes_to grades grades_laws copying_grades refl 2 resting_grades refl refl refl

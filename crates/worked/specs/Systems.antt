@@ -64,12 +64,12 @@ falling = (ground_zero ∷ shifted 0 (negsuc 0) ∷ []) ∷ []
 
 -- the equations of a system
 abbrev pub equations : System → List (List (Alternative Bound ℤ))
-equations Nothing = []
-equations Copying = copying
-equations Capped = capped
-equations Growing = growing
-equations Groundless = groundless
-equations Falling = falling
+system_equations Nothing = []
+system_equations Copying = copying
+system_equations Capped = capped
+system_equations Growing = growing
+system_equations Groundless = groundless
+system_equations Falling = falling
 
 -- where a system rests
 abbrev pub rest_of : System → List Bound

@@ -117,7 +117,7 @@ impl SinkingBook {
 }
 
 impl Book<Depth> for SinkingBook {
-    ghost meaning = { λ _. sinking_depths };
+    ghost equations = { λ _. sinking_depths };
 
     ghost well = { λ b. depths_rest.well };
 

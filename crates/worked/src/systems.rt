@@ -1,6 +1,6 @@
 // Small systems of equations over bounds and over grades, with the rounds that they take to rest.
 ghost use Rattle.kinds.specs.Values.{bounds, grades};
-ghost use Rattle.worked.specs.Systems.{equations, rest_of, copying_grades, resting_grades, ComesTo, SystemsStand, BoundedLives};
+ghost use Rattle.worked.specs.Systems.{system_equations, rest_of, copying_grades, resting_grades, ComesTo, SystemsStand, BoundedLives};
 ghost use Rattle.worked.specs.Resting.{rests_after, grades_rest};
 ghost use Rattle.std.specs.Prelude.{refl};
 
@@ -36,7 +36,7 @@ impl System {
     // The counted rounds from set-up to rest.
     #[tactic(auto, using(crate::specs::Resting::rests_after, crate::specs::Resting::systems, crate::specs::Resting::bounded))]
     pub fn rounds(self) -> u16
-        ensures rest { ComesTo bounds (equations self) result (rest_of self) }
+        ensures rest { ComesTo bounds (system_equations self) result (rest_of self) }
         ensures collection { SystemsStand }
         ensures sizes { BoundedLives }
     {
@@ -49,7 +49,7 @@ impl System {
 }
 
 impl Book<Bound> for System {
-    ghost meaning = { equations };
+    ghost equations = { system_equations };
 
     ghost well = { λ t. (rests_after t refl).well };
 
@@ -108,7 +108,7 @@ impl CopiedGrade {
 }
 
 impl Book<Grade> for CopiedGrade {
-    ghost meaning = { λ _. copying_grades };
+    ghost equations = { λ _. copying_grades };
 
     ghost well = { λ b. grades_rest.well };
 

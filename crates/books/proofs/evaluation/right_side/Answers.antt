@@ -7,7 +7,7 @@ use Rattle.books.proofs.evaluation.right_side.Goals.{in-Ok, in_default}
 
 pub loop-number-preserved : goal.loop-number-preserved
 loop-number-preserved g c h =
-    let m = g.B.Book.meaning c.args.book.now in
+    let m = g.B.Book.equations c.args.book.now in
     let bs = get_or m c.args.unknown [] in
     let n : c.unwrap_or-count.result ≡ length bs = count_is m c.args.unknown c.unwrap_or-count.result c.alternatives.result c.alternatives.ensures c.unwrap_or-count.ensures in
     let lt : c.loop-number.number < length bs = omega arith in

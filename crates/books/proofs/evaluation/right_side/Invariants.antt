@@ -4,4 +4,4 @@ use Rattle.books.specs.Entries.{values, Short}
 use Rattle.books.proofs.evaluation.right_side.Given as goal
 
 abbrev pub invariant-loop-number : goal.invariant-loop-number
-invariant-loop-number g l = Short g.K.Kind.ops (values l.list) → Largest g.K.Kind.ops (values l.list) (take l.number (get_or (g.B.Book.meaning l.book) l.unknown [])) l.best
+invariant-loop-number g l = Short g.K.Kind.ops (values l.list) → Largest g.K.Kind.ops (values l.list) (take l.number (get_or (g.B.Book.equations l.book) l.unknown [])) l.best

@@ -7,7 +7,7 @@ use Rattle.books.proofs.evaluation.rises.Goals.{in-Ok+else-not-at_most, in_defau
 
 pub loop-number-preserved : goal.loop-number-preserved
 loop-number-preserved g c h v =
-    let m = g.B.Book.meaning c.args.book.now in
+    let m = g.B.Book.equations c.args.book.now in
     let bs = get_or m c.args.unknown [] in
     let n : c.unwrap_or-count.result ≡ length bs = count_is m c.args.unknown c.unwrap_or-count.result c.alternatives.result c.alternatives.ensures c.unwrap_or-count.ensures in
     let lt : c.loop-number.number < length bs = omega arith in
@@ -20,7 +20,7 @@ loop-number-preserved g c h v =
 
 pub returns-then-not-at_most : goal.returns-then-not-at_most
 returns-then-not-at_most g c h v =
-    let m = g.B.Book.meaning c.args.book.now in
+    let m = g.B.Book.equations c.args.book.now in
     let bs = get_or m c.args.unknown [] in
     let well = g.met.B.Book.well c.args.book.now in
     right_rises g.K.Kind.ops g.met.K.Kind.laws (values c.args.list.now) bs c.loop-number.number c.in-Ok.choice c.args.value (found_ok _ c.in-Ok.choice c.in-Ok.ensures)
@@ -29,7 +29,7 @@ returns-then-not-at_most g c h v =
 
 pub returns : goal.returns
 returns g c h v =
-    let m = g.B.Book.meaning c.args.book.now in
+    let m = g.B.Book.equations c.args.book.now in
     let bs = get_or m c.args.unknown [] in
     let n : c.unwrap_or-count.result ≡ length bs = count_is m c.args.unknown c.unwrap_or-count.result c.alternatives.result c.alternatives.ensures c.unwrap_or-count.ensures in
     right_stays g.K.Kind.ops g.met.K.Kind.laws (values c.args.list.now) bs c.args.value (λ k a lt. c.loop-number.invariant h v k a (omega arith))

@@ -9,4 +9,4 @@ use Rattle.books.proofs.evaluation.rises.Given as goal
 
 abbrev pub invariant-loop-number : goal.invariant-loop-number
 invariant-loop-number g l = Short g.K.Kind.ops (values l.list) → Made g.K.Kind.ops most_items l.value →
-    (k : ℕ) (a : Alternative g.row.K.Denot g.row.K-Weight.Denot) → k < l.number → nth (get_or (g.B.Book.meaning l.book) l.unknown []) k ≡ Some a → Le g.K.Kind.ops (worth g.K.Kind.ops (values l.list) a) l.value
+    (k : ℕ) (a : Alternative g.row.K.Denot g.row.K-Weight.Denot) → k < l.number → nth (get_or (g.B.Book.equations l.book) l.unknown []) k ≡ Some a → Le g.K.Kind.ops (worth g.K.Kind.ops (values l.list) a) l.value

@@ -12,7 +12,7 @@ returns-then-not-progress-clause-end g c = λ e.
     let known = c.in_ok-progress.ensures in
     inr (
       known.refusal.0,
-      moves g.K.Kind.ops (g.B.Book.meaning s.book) c.args.budget p.rounds p.settled (state_of s.analysis) (state_of c.run.new.self.analysis) e known.life (not-true p.settled c.if-not-progress.true),
+      moves g.K.Kind.ops (g.B.Book.equations s.book) c.args.budget p.rounds p.settled (state_of s.analysis) (state_of c.run.new.self.analysis) e known.life (not-true p.settled c.if-not-progress.true),
       c.unplaced.ensures,
     )
 
@@ -22,7 +22,7 @@ returns-clause-end g c = λ e.
     let p = c.in_ok-progress.progress in
     let s = c.args.session.now in
     let s' = c.run.new.self in
-    let m = g.B.Book.meaning s.book in
+    let m = g.B.Book.equations s.book in
     let known = c.in_ok-progress.ensures in
     let ends = settles o m c.args.budget p.rounds p.settled (state_of s.analysis) (state_of s'.analysis) e known.life (not-false p.settled c.if-not-progress.false) in
-    (told o m g.B.Book.meaning s.book s'.book s'.settled p.rounds (values s'.analysis.list.now) known.same_book refl s'.known ends, record { allowed = known.refusal.0; settles = ends; within = known.refusal.1 })
+    (told o m g.B.Book.equations s.book s'.book s'.settled p.rounds (values s'.analysis.list.now) known.same_book refl s'.known ends, record { allowed = known.refusal.0; settles = ends; within = known.refusal.1 })

@@ -7,7 +7,7 @@ pub returns-in-Ok-clause-begun : goal.returns-in-Ok-clause-begun
 returns-in-Ok-clause-begun g c e =
     let o = g.K.Kind.ops in
     let l = g.met.K.Kind.laws in
-    let m = g.B.Book.meaning c.args.book.now in
+    let m = g.B.Book.equations c.args.book.now in
     let well = g.met.B.Book.well c.args.book.now in
     let p = c.in-Ok.progress in
     let s = state_of c.args.analysis.now in

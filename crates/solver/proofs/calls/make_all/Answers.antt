@@ -14,7 +14,7 @@ use Rattle.solver.proofs.calls.make_all.Goals as goal
 pub loop-place-init : goal.loop-place-init
 loop-place-init g c =
     let o = g.K.Kind.ops in
-    let m = g.B.Book.meaning c.args.book.now in
+    let m = g.B.Book.equations c.args.book.now in
     let begun = c.begin-analysis.ensures.fresh in
     record {
       same_list = refl;
@@ -28,7 +28,7 @@ loop-place-init g c =
 pub loop-place-preserved : goal.loop-place-preserved
 loop-place-preserved g c =
     let o = g.K.Kind.ops in
-    let m = g.B.Book.meaning c.args.book.now in
+    let m = g.B.Book.equations c.args.book.now in
     let i = c.loop-place.place in
     let cs = c.args.calls.now in
     let bs = c.loop-place.answers in

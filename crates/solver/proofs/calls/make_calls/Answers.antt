@@ -12,7 +12,7 @@ use Rattle.solver.proofs.calls.make_calls.Goals.{then-list-count-via-then-list-c
 pub returns : goal.returns
 returns g c =
     let o = g.K.Kind.ops in
-    let m = g.B.Book.meaning c.args.book.now in
+    let m = g.B.Book.equations c.args.book.now in
     let es = c.args.list.now in
     let es' = c.make_all.new.list in
     let n = c.count-count.result in

@@ -8,7 +8,7 @@ pub loop-unknown-preserved : goal.loop-unknown-preserved
 loop-unknown-preserved g c =
     let o = g.K.Kind.ops in
     let l = g.met.K.Kind.laws in
-    let m = g.B.Book.meaning c.args.book.now in
+    let m = g.B.Book.equations c.args.book.now in
     let es = c.args.list.now in
     let lt : c.loop-unknown.unknown < length c.loop-unknown.list = omega arith in (
       λ h.
@@ -22,7 +22,7 @@ loop-unknown-preserved g c =
 
 pub returns : goal.returns
 returns g c = record {
-  improves = λ h len. improved_all g.K.Kind.ops g.met.K.Kind.laws (g.B.Book.meaning c.args.book.now) c.args.list.now c.loop-unknown.unknown c.loop-unknown.switched c.loop-unknown.list
+  improves = λ h len. improved_all g.K.Kind.ops g.met.K.Kind.laws (g.B.Book.equations c.args.book.now) c.args.list.now c.loop-unknown.unknown c.loop-unknown.switched c.loop-unknown.list
       (c.loop-unknown.invariant.0 h) len c.loop-unknown.auto.list (omega arith);
   still = c.loop-unknown.invariant.1;
 }

@@ -5,4 +5,4 @@ use Rattle.solver.proofs.choosing.improve.Given as goal
 
 abbrev pub invariant-loop-unknown : goal.invariant-loop-unknown
 invariant-loop-unknown g l =
-    (Short g.K.Kind.ops (values l.initial.list) → Improving g.K.Kind.ops g.met.K.Kind.laws (g.B.Book.meaning l.book) l.initial.list l.unknown l.switched l.list) × (l.switched ≡ false → l.list ≡ l.initial.list)
+    (Short g.K.Kind.ops (values l.initial.list) → Improving g.K.Kind.ops g.met.K.Kind.laws (g.B.Book.equations l.book) l.initial.list l.unknown l.switched l.list) × (l.switched ≡ false → l.list ≡ l.initial.list)

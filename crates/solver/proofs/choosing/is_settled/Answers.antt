@@ -14,7 +14,7 @@ pub returns : goal.returns
 returns g c h len =
     let o = g.K.Kind.ops in
     let l = g.met.K.Kind.laws in
-    let m = g.B.Book.meaning c.args.book.now in
+    let m = g.B.Book.equations c.args.book.now in
     let es = c.args.list.now in
     settled_all o l m es h len c.all.result
     (cases_from_all _ _ c.all.result (Under o l m (values es) true) (Under o l m (values es) false) c.all.ensures.ran (YieldsList-from_enumerate (YieldsList-from_slice es (cc)) (cc))

@@ -10,7 +10,7 @@ pub returns-then-same-clause-relaxes : goal.returns-then-same-clause-relaxes
 returns-then-same-clause-relaxes g c h =
     let o = g.K.Kind.ops in
     let l = g.met.K.Kind.laws in
-    let m = g.B.Book.meaning c.args.book.now in
+    let m = g.B.Book.equations c.args.book.now in
     let well = g.met.B.Book.well c.args.book.now in
     let es = c.args.list.now in
     let u = c.args.unknown in
@@ -22,7 +22,7 @@ returns-then-same-clause-relaxes g c h =
 
 pub returns-clause-relaxes : goal.returns-clause-relaxes
 returns-clause-relaxes g c h =
-    relax_moves g.K.Kind.ops g.met.K.Kind.laws (g.B.Book.meaning c.args.book.now) (g.met.B.Book.well c.args.book.now) c.args.list.now h c.args.unknown
+    relax_moves g.K.Kind.ops g.met.K.Kind.laws (g.B.Book.equations c.args.book.now) (g.met.B.Book.well c.args.book.now) c.args.list.now h c.args.unknown
     c.in-Some.choice c.in-Some.ensures.value c.smaller_term-value.result (c.smaller_term-value.ensures _ h) c.index-list-unknown-2.result
 
 pub returns-clause-strategy : goal.returns-clause-strategy

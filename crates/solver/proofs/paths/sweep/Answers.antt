@@ -9,7 +9,7 @@ use Rattle.solver.proofs.paths.sweep.Goals as goal
 pub loop-unknown-preserved : goal.loop-unknown-preserved
 loop-unknown-preserved g c =
     let o = g.K.Kind.ops in
-    let m = g.B.Book.meaning c.args.book.now in
+    let m = g.B.Book.equations c.args.book.now in
     let es = c.args.list.now in
     let i = c.loop-unknown.unknown in
     let le : i ≤ length es = omega arith in

@@ -4,13 +4,13 @@ use Rattle.strategy_theory.proofs.Turns.{ready_long, counts_none, counts_more, r
 use Rattle.solver.proofs.rounds.make_rounds.Goals as goal
 
 pub loop-rounds-init : goal.loop-rounds-init
-loop-rounds-init g c r = (counts_none g.K.Kind.ops g.met.K.Kind.laws (g.B.Book.meaning c.args.book.now) (g.met.B.Book.well c.args.book.now) c.args.list.now, r)
+loop-rounds-init g c r = (counts_none g.K.Kind.ops g.met.K.Kind.laws (g.B.Book.equations c.args.book.now) (g.met.B.Book.well c.args.book.now) c.args.list.now, r)
 
 pub loop-rounds-preserved : goal.loop-rounds-preserved
 loop-rounds-preserved g c r =
     let o = g.K.Kind.ops in
     let l = g.met.K.Kind.laws in
-    let m = g.B.Book.meaning c.args.book.now in
+    let m = g.B.Book.equations c.args.book.now in
     let well = g.met.B.Book.well c.args.book.now in
     let inv = c.loop-rounds.invariant r in
     let es = c.loop-rounds.list in

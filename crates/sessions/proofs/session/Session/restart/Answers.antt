@@ -10,7 +10,7 @@ pub invariant_of-self : goal.invariant_of-self
 invariant_of-self g c =
     let o = g.K.Kind.ops in
     let l = g.met.K.Kind.laws in
-    let m = g.B.Book.meaning c.args.self.now.book in
+    let m = g.B.Book.equations c.args.self.now.book in
     let well = g.met.B.Book.well c.args.self.now.book in
     let es = c.args.self.now.analysis.list.now in
     let a = c.restart.new.self in
@@ -22,7 +22,7 @@ pub returns-clause-life : goal.returns-clause-life
 returns-clause-life g c =
     let o = g.K.Kind.ops in
     let l = g.met.K.Kind.laws in
-    let m = g.B.Book.meaning c.args.self.now.book in
+    let m = g.B.Book.equations c.args.self.now.book in
     let well = g.met.B.Book.well c.args.self.now.book in
     let es = c.args.self.now.analysis.list.now in
     let a = c.restart.new.self in
@@ -34,7 +34,7 @@ pub returns-clause-fresh : goal.returns-clause-fresh
 returns-clause-fresh g c =
     let o = g.K.Kind.ops in
     let l = g.met.K.Kind.laws in
-    let m = g.B.Book.meaning c.args.self.now.book in
+    let m = g.B.Book.equations c.args.self.now.book in
     let well = g.met.B.Book.well c.args.self.now.book in
     let es = c.args.self.now.analysis.list.now in
     let a = c.restart.new.self in

@@ -6,7 +6,7 @@ use Rattle.sessions.proofs.session.Session.round.Goals as goal
 
 pub invariant_of-self : goal.invariant_of-self
 invariant_of-self g c =
-    let m = g.B.Book.meaning c.args.self.now.book in
+    let m = g.B.Book.equations c.args.self.now.book in
     let well = g.met.B.Book.well c.args.self.now.book in
     let s = state_of c.args.self.now.analysis in
     let s' = state_of c.round-progress.new.self in
@@ -18,5 +18,5 @@ invariant_of-self g c =
 
 pub returns-clause-life : goal.returns-clause-life
 returns-clause-life g c =
-    let m = g.B.Book.meaning c.args.self.now.book in
+    let m = g.B.Book.equations c.args.self.now.book in
     carries g.K.Kind.ops g.met.K.Kind.laws m (g.met.B.Book.well c.args.self.now.book) one_round (progressed c.round-progress.result) (state_of c.args.self.now.analysis) (state_of c.round-progress.new.self) c.round-progress.ensures.life

@@ -7,7 +7,7 @@ pub invariant_of-result : goal.invariant_of-result
 invariant_of-result g c =
     let o = g.K.Kind.ops in
     let l = g.met.K.Kind.laws in
-    let m = g.B.Book.meaning c.args.book in
+    let m = g.B.Book.equations c.args.book in
     let well = g.met.B.Book.well c.args.book in
     let a = c.in_ok-analysis.analysis in
     let starts = c.in_ok-analysis.ensures.starts in
@@ -16,7 +16,7 @@ invariant_of-result g c =
 
 pub returns-clause-starts : goal.returns-clause-starts
 returns-clause-starts g c =
-    let m = g.B.Book.meaning c.args.book in
+    let m = g.B.Book.equations c.args.book in
     let a = c.in_ok-analysis.analysis in
     let starts = c.in_ok-analysis.ensures.starts in
     let r = c.rests-settled.ensures.begun (begun_by g.K.Kind.ops g.met.K.Kind.laws m (g.met.B.Book.well c.args.book) a.list.now a.rounds _ starts.1 starts.2 refl) in
@@ -26,7 +26,7 @@ pub returns-clause-life : goal.returns-clause-life
 returns-clause-life g c =
     let o = g.K.Kind.ops in
     let l = g.met.K.Kind.laws in
-    let m = g.B.Book.meaning c.args.book in
+    let m = g.B.Book.equations c.args.book in
     let well = g.met.B.Book.well c.args.book in
     let a = c.in_ok-analysis.analysis in
     let starts = c.in_ok-analysis.ensures.starts in

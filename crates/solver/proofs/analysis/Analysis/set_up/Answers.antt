@@ -11,7 +11,7 @@ returns-in_default-clause-theory g c = stands g.K.Kind.ops g.met.K.Kind.laws
 pub returns-clause-starts : goal.returns-clause-starts
 returns-clause-starts g c =
     let o = g.K.Kind.ops in
-    let m = g.B.Book.meaning c.args.book.now in
+    let m = g.B.Book.equations c.args.book.now in
     let long : length c.in-Some.front.now ≡ length m = omega (arith, c.in-Some.ensures.lookup.0.3, c.count.ensures) in
     let is : c.begin.result.list.now ≡ fresh o (length m) = c.begin.ensures.fresh.0 ∙ ap (λ (k : ℕ). fresh o k) long in (
       omega (arith, c.in-Some.ensures.lookup.0.1, c.count.ensures),
