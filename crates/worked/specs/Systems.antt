@@ -63,7 +63,7 @@ abbrev pub falling : List (List (Alternative Bound ℤ))
 falling = (ground_zero ∷ shifted 0 (negsuc 0) ∷ []) ∷ []
 
 -- the equations of a system
-abbrev pub equations : System → List (List (Alternative Bound ℤ))
+abbrev pub system_equations : System → List (List (Alternative Bound ℤ))
 system_equations Nothing = []
 system_equations Copying = copying
 system_equations Capped = capped
