@@ -1,10 +1,10 @@
--- What each reason to refuse says: its number and its layer. Contracts speak of a refusal through these two.
+-- What each reason to refuse says: its number and its phase. Contracts speak of a refusal through these two.
 use Rattle.std.specs.Prelude.{ℕ, List, Some, None, codes}
 use Rattle.base.specs.declared.Place.{Place}
 use Rattle.base.specs.declared.Reason.{Reason}
 use Rattle.base.specs.declared.Reason.TheVariants.{ScriptTooLong, NoWord, NumberTooLarge, NameTooLong, Unexpected, TooDeep, DeclaredBefore, Undeclared, RangeFalls, TableSize, SameName, TooManyNames, TooManyPoints, NotThere, NotSettled, BudgetTooLarge, ListTooShort, BufferTooShort, OutOfMemory}
-use Rattle.base.specs.declared.Layer.{Layer}
-use Rattle.base.specs.declared.Layer.TheVariants.{Words, Sentence, Names, Graph, Solving, Output, Memory}
+use Rattle.base.specs.declared.Phase.{Phase}
+use Rattle.base.specs.declared.Phase.TheVariants.{Words, Sentence, Names, Graph, Solving, Output, Memory}
 use Rattle.base.specs.declared.Refusal.{Refusal}
 
 abbrev pub number_of : Reason → ℕ
@@ -28,29 +28,29 @@ number_of ListTooShort = 33
 number_of BufferTooShort = 40
 number_of OutOfMemory = 90
 
-abbrev pub layer_of : Reason → Layer
-layer_of ScriptTooLong = Words
-layer_of NoWord = Words
-layer_of NumberTooLarge = Words
-layer_of NameTooLong = Words
-layer_of Unexpected = Sentence
-layer_of TooDeep = Sentence
-layer_of DeclaredBefore = Names
-layer_of Undeclared = Names
-layer_of RangeFalls = Names
-layer_of TableSize = Names
-layer_of SameName = Names
-layer_of TooManyNames = Names
-layer_of TooManyPoints = Graph
-layer_of NotThere = Solving
-layer_of NotSettled = Solving
-layer_of BudgetTooLarge = Solving
-layer_of ListTooShort = Solving
-layer_of BufferTooShort = Output
-layer_of OutOfMemory = Memory
+abbrev pub phase_of : Reason → Phase
+phase_of ScriptTooLong = Words
+phase_of NoWord = Words
+phase_of NumberTooLarge = Words
+phase_of NameTooLong = Words
+phase_of Unexpected = Sentence
+phase_of TooDeep = Sentence
+phase_of DeclaredBefore = Names
+phase_of Undeclared = Names
+phase_of RangeFalls = Names
+phase_of TableSize = Names
+phase_of SameName = Names
+phase_of TooManyNames = Names
+phase_of TooManyPoints = Graph
+phase_of NotThere = Solving
+phase_of NotSettled = Solving
+phase_of BudgetTooLarge = Solving
+phase_of ListTooShort = Solving
+phase_of BufferTooShort = Output
+phase_of OutOfMemory = Memory
 
--- the word that is printed for a layer
-abbrev pub text_of : Layer → List ℕ
+-- the word that is printed for a phase
+abbrev pub text_of : Phase → List ℕ
 text_of Words = codes "words"
 text_of Sentence = codes "sentence"
 text_of Names = codes "names"

@@ -12,7 +12,7 @@ mod script;
 
 use base::Refusal;
 use details::Details;
-use listing::{Listing, RefusalLine, Summary};
+use listing::{Listing, Summary};
 use script::script_of;
 use script_graph::graph::Graph;
 use std::io;
@@ -24,7 +24,7 @@ fn tell(rt: &HostRuntime, name: &str, answer: Result<Graph, Refusal>) -> io::Res
             println!(rt; "{name}: {}{}", Listing(&graph), Details(&graph))
         }
         Ok(graph) => println!(rt; "{name}: {}", Summary(&graph)),
-        Err(refusal) => println!(rt; "{name}: {}", RefusalLine(refusal)),
+        Err(refusal) => println!(rt; "{name}: {refusal}"),
     }
 }
 

@@ -6,7 +6,7 @@ ghost use Rattle.std.specs.Process.{exit_status};
 
 use anyhow::anyhow;
 use base::Refusal;
-use listing::{Listing, RefusalLine};
+use listing::Listing;
 use report::report_text;
 use script_graph::read;
 use std::alloc::Global;
@@ -49,7 +49,7 @@ fn script_from_input(rt: &HostRuntime) -> io::Result<Vec<u8>>
 fn print_refusal(rt: &HostRuntime, refusal: Refusal) -> io::Result<ExitCode>
     ensures { IfOk result (λ status. exit_status status ≡ 1) }
 {
-    println!(rt; "{}", RefusalLine(refusal))?;
+    println!(rt; "{refusal}")?;
     Ok(ExitCode::FAILURE)
 }
 

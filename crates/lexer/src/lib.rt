@@ -1,15 +1,18 @@
 // The words of a script: parts of the lent bytes, each with the line and column where it begins.
 #![tactic(auto)]
 
-ghost use Rattle.std.specs.Prelude.{◌≡◌};
+ghost use Rattle.std.specs.Prelude.{◌≡◌, Some};
 ghost use Rattle.base.specs.Reasons.{located};
+ghost use Rattle.base.specs.Refusals.{refusal_line};
 
 use base::{Place, Reason, Refusal};
+use std::error::Error;
+use std::fmt;
 
 mod bytes;
 pub mod reader;
 
-// the words of one spelling: fourteen symbols, then seven reserved words
+/// The words of one spelling: fourteen symbols, then seven reserved words
 #[derive(Clone, Copy, PartialEq, Eq, Debug)]
 pub enum Mark {
     Becomes,
@@ -35,7 +38,7 @@ pub enum Mark {
     Sense,
 }
 
-// A word of a script; a name is the part of the bytes that spells it.
+/// A word of a script; a name is the part of the bytes that spells it.
 #[derive(Clone, Copy, PartialEq, Eq, Debug)]
 pub enum Word<'a> {
     Name(&'a [u8]),
@@ -43,7 +46,7 @@ pub enum Word<'a> {
     Sign(Mark),
 }
 
-// Why no word stands at a place of a script, and that place.
+/// Why no word stands at a place of a script, and that place.
 #[derive(Clone, Copy, PartialEq, Eq, Debug)]
 pub struct Fault {
     pub reason: Reason,
@@ -57,3 +60,14 @@ impl From<Fault> for Refusal {
         Refusal::at(fault.reason, fault.place)
     }
 }
+
+/// The line of the refusal that it becomes.
+impl fmt::Display for Fault {
+    ghost output = { λ f. Some (refusal_line (located f.reason f.place)) };
+
+    fn fmt<W: fmt::Write>(&self, f: &mut fmt::Formatter<W>) -> fmt::Result {
+        write!(f, "{}", Refusal::from(*self))
+    }
+}
+
+impl Error for Fault {}

@@ -1,4 +1,3 @@
 pub mod Edges
 pub mod Listings
 pub mod Names
-pub mod Refusals

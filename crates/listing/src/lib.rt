@@ -1,29 +1,23 @@
-// What became of a script, as text: the points and edges that were read, or the line of a refusal.
+// A graph as text: the points and edges that were read.
 #![tactic(auto)]
 
 ghost use Rattle.std.specs.Prelude.{Some};
 ghost use Rattle.listing.specs.Listings.{summary_text, listing_text};
-ghost use Rattle.listing.specs.Refusals.{refusal_line};
 
 mod edges;
 pub mod parts;
 
-use base::Refusal;
 use edges::EdgeLine;
 use script_graph::graph::Graph;
 use std::fmt;
 
-// How many points and edges were read, in one line.
+/// How many points and edges were read, in one line.
 #[derive(Drop)]
 pub struct Summary<'a>(pub &'a Graph);
 
-// The summary, and a line for each edge in the order made.
+/// The summary, and a line for each edge in the order made.
 #[derive(Drop)]
 pub struct Listing<'a>(pub &'a Graph);
-
-// The line of a refusal: its layer, its number, and the line and column, 0 0 if it has no place.
-#[derive(Drop)]
-pub struct RefusalLine(pub Refusal);
 
 impl fmt::Display for Summary<'_> {
     ghost output = { λ x. Some (summary_text x.0.now) };
@@ -45,17 +39,5 @@ impl fmt::Display for Listing<'_> {
             write!(f, "\n{}", EdgeLine { variables, edge })?;
         }
         Ok(())
-    }
-}
-
-impl fmt::Display for RefusalLine {
-    ghost output = { λ x. Some (refusal_line x.0) };
-
-    fn fmt<W: fmt::Write>(&self, f: &mut fmt::Formatter<W>) -> fmt::Result {
-        let Refusal { reason, place } = self.0;
-        let layer = reason.layer();
-        let number = reason.number();
-        let (line, column) = place.map_or((0, 0), |place| (place.line, place.column));
-        write!(f, "refused {layer} {number} {line} {column}")
     }
 }

@@ -8,11 +8,11 @@ use language_theory::Range;
 use parser::Named;
 use std::fmt;
 
-// A name: letters, digits and _, a byte each.
+/// A name: letters, digits and _, a byte each.
 #[derive(Clone, Copy)]
 pub struct Name<'a>(pub &'a [u8]);
 
-// A range, from its least number to its greatest.
+/// A range, from its least number to its greatest.
 #[derive(Drop)]
 pub struct Span(pub Range);
 
@@ -35,7 +35,7 @@ impl fmt::Display for Span {
     }
 }
 
-// The name of what stands under a number, or ? if there is none.
+/// The name of what stands under a number, or ? if there is none.
 pub fn name_at<T: Named>(list: &[T], number: usize) -> Name<'_>
     ensures { result.0.now ≡ named (map T.Named.called list.now) number }
 {
