@@ -35,7 +35,7 @@ impl<'a, T: Copy> SliceList<'a, T> {
         ensures pushed { MatchResult result (λ _. (self.old.count < length self.old.slots.now) × (self.new.slots.now ≡ slice_set self.old.slots.now self.old.count entry) × (self.new.count ≡ self.old.count + 1)) (λ e. (length self.old.slots.now ≤ self.old.count) × (self.new.slots.now ≡ self.old.slots.now) × (self.new.count ≡ self.old.count) × (e ≡ nowhere ListTooShort)) }
     {
         if self.count >= self.slots.len() {
-            return Err(Refusal::unplaced(Reason::ListTooShort));
+            return Err(Reason::ListTooShort.into());
         }
         self.slots[self.count] = entry;
         self.count += 1;

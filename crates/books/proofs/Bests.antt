@@ -43,18 +43,6 @@ module _ {V W : Type 0} (o : Ops V W) (l : Laws o) where
   best_under x y [] h = l.bottom y
   best_under x y (b ∷ bs) h = greater_under (h zero b refl) (best_under x y bs (λ k. h (suc k)))
 
-  -- the first alternative that is worth r or more
-  pub reach_first : (x : List V) (r : V) (bs : List (Alternative V W)) (k : ℕ) (a : Alternative V W) → nth bs k ≡ Some a → Le o r (worth o x a) →
-      ((j : ℕ) (b : Alternative V W) → j < k → nth bs j ≡ Some b → Less o (worth o x b) r) → reach o x r bs ≡ Some k
-  reach_first x r [] k a e p f = absurd (no_option e)
-  reach_first x r (b ∷ bs) zero a e p f = ap (λ (t : Bool). cond t (Some zero) (next (reach o x r bs))) (subst (λ (d : Alternative V W). Le o r (worth o x d)) (sym (some_same b a e)) p)
-    where
-      some_same : (c d : Alternative V W) → Some c ≡ Some d → c ≡ d
-      some_same c d q = cc
-  reach_first x r (b ∷ bs) (suc k) a e p f =
-      ap (λ (t : Bool). cond t (Some zero) (next (reach o x r bs))) (f zero b (omega arith) refl) ∙
-      ap next (reach_first x r bs k a e p (λ j d h. f (suc j) d (omega arith)))
-
   -- the first that reaches a value stays so, whatever comes behind
   reach_left : (x : List V) (r : V) (bs cs : List (Alternative V W)) (k : ℕ) → reach o x r bs ≡ Some k → reach o x r (bs ++ cs) ≡ Some k
   reach_left x r [] cs k e = absurd (no_option e)
@@ -92,9 +80,6 @@ module _ {V W : Type 0} (o : Ops V W) (l : Laws o) where
           absurd (never_both (le_trans o l low (l.bottom (worth o x b))) h)
 
   -- one alternative more
-  pub largest_none : (x : List V) → Largest o x [] (record { value = o.least; first = None })
-  largest_none x = record { value = refl; first = refl }
-
   module _ (x : List V) (bs : List (Alternative V W)) (r : RightSide V) (g : Largest o x bs r) (a : Alternative V W) where
     pub largest_first : r.first ≡ None → Largest o x (bs ++ a ∷ []) (record { value = worth o x a; first = Some (length bs) })
     largest_first e = subst (λ (cs : List (Alternative V W)). Largest o x (cs ++ a ∷ []) (record { value = worth o x a; first = Some (length cs) }))

@@ -5,3 +5,4 @@ pub mod Bests
 pub mod Evaluating
 pub mod Asked
 pub mod Rows
+pub mod Fits

@@ -2,3 +2,4 @@ pub mod Books
 pub mod Forms
 pub mod Questions
 pub mod Entries
+pub mod Fits

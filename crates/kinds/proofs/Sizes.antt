@@ -1,5 +1,7 @@
 -- How large a sum of k items can be: k × 2^31.
 use Rattle.std.proofs.Common.{◌≡◌, ℕ, suc, ◌*◌, ◌≤◌, true, ℤ, ◌+ℤ◌, nat_abs, arith, leb-true}
+use Rattle.std.proofs.Math.Bridge.{le_prop}
+use mathlib.Core.HLevel.{Unit-prop}
 use borrow.Author.Differences.{ints}
 use Rattle.kinds.specs.Kinds.{Made, Sum}
 use Rattle.kinds.specs.Kinds.Made.{low, high, given, moved}
@@ -38,3 +40,8 @@ pub sum_sized : {k : ℕ} {w : ℤ} → Sum bounds k w → nat_abs w ≤ k * mos
 sum_sized none = omega arith
 sum_sized (one {k = k} {v = v} h) = small_first k v h
 sum_sized (more {k = k} {v = v} {w = w} h r) = (small_more k w v h (sum_sized r)).1
+
+pub sized_prop : (k : ℕ) (x : Bound) → IsProp (SizedBy k x)
+sized_prop k Least = Unit-prop
+sized_prop k (Whole a) = le_prop
+sized_prop k Greatest = Unit-prop

@@ -205,13 +205,13 @@ grade_total : (x y : Grade) → (up_to x y ≡ true) ⊎ (up_to y x ≡ true)
 grade_total x y = elim (leb_tells (rank_of x) (rank_of y)) [ inl h ↦ inl h.0 | inr h ↦ inr (grind (arith, nat_tests)) ]
 
 -- the grade of a rank
-abbrev at_rank : ℕ → Grade
+abbrev pub at_rank : ℕ → Grade
 at_rank zero = Unreached
 at_rank (suc zero) = Written
 at_rank (suc (suc zero)) = Sensed
 at_rank (suc (suc (suc n))) = Heard
 
-at_its_rank : (x : Grade) → at_rank (rank_of x) ≡ x
+pub at_its_rank : (x : Grade) → at_rank (rank_of x) ≡ x
 at_its_rank Unreached = refl
 at_its_rank Written = refl
 at_its_rank Sensed = refl

@@ -17,7 +17,7 @@ pub enum Grade {
 }
 
 // The only weight of grades: they do not shift.
-#[derive(Clone, Copy)]
+#[derive(Clone, Copy, PartialEq, Eq, Debug)]
 pub enum NoWeight {
     Zero,
 }

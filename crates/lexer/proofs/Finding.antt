@@ -54,13 +54,6 @@ finds_symbol bs b p n m h l d e = go (symbol_in symbols bs) e (sym (part_symbol 
         let x = some_pair_parts n (length s.bytes) m s.mark k in
         record { found = ap (λ (z : Mark). word (mark z p)) x.1 ∙ ap (λ (t : Part). t.next) q; length_is = x.0 ∙ ap (λ (t : Part). length t.bytes) q }
 
-pub finds_fault : (bs : List ℕ) (b : ℕ) (p : Place) → Some b ≡ slice_get bs 0 → letter b ≡ false → digit b ≡ false → None ≡ sized (symbol_in symbols bs) → Finds bs p (Err NoWord) 1
-finds_fault bs b p h l d e = go (symbol_in symbols bs) e (sym (part_symbol bs b p h l d))
-  where
-    go : (o : Option Spelling) → None ≡ sized o → symbol_part o b p ≡ part bs p → Finds bs p (Err NoWord) 1
-    go None k q = record { found = ap (λ (t : Part). t.next) q; length_is = ap (λ (t : Part). length t.bytes) q }
-    go (Some s) k q = absurd (none-some (length s.bytes, s.mark) k)
-
 -- what is left of a slice behind its first n bytes
 abbrev pub past : ℕ → List ℕ → List ℕ
 past n bs = take (length bs - n) (drop n bs)

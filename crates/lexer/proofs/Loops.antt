@@ -42,11 +42,6 @@ behind_column (b ∷ bs) p = let h = behind_column bs (onward b p) in let k = on
 abbrev pub Placed : List ℕ → Place → ℕ → Place → Type 0
 Placed bs p n q = (behind bs p ≡ behind (drop n bs) q) × (q.line ≤ p.line + n) × (q.column ≤ p.column + n)
 
-pub both_ways : (r b : Bool) → (r ≡ true → b ≡ true) → (b ≡ true → r ≡ true) → r ≡ b
-both_ways true b f g = sym (f refl)
-both_ways false true f g = g refl
-both_ways false false f g = refl
-
 -- digits whose value has come over the most
 pub too_large : (ds : List ℕ) (i n m : ℕ) → i < length ds → value 0 ds ≡ value n (drop i ds) → m ≤ n * 10 + (get_or ds i 0 - 48) → 2147483647 < m → None ≡ within 2147483647 (value 0 ds)
 too_large ds i n m h e l o =

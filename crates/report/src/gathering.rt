@@ -79,7 +79,7 @@ fn finding_line<'a>(
     ensures { SettledOn grades.now.settled grades.now.book.graph.now graph.now → finding.point < graph.now.points → finding.variable < variables_of (meaning graph.now) → MatchResult result (λ l. map field_text l.items ≡ found_fields (found finding (name_of (meaning graph.now) finding.variable) (at grades_kind (values grades.now.analysis.list.now) (grade_at (variables_of (meaning graph.now)) finding.point finding.variable)))) (λ e. e ≡ no_memory) }
 {
     let declared = graph.variables().get(finding.variable);
-    let variable = declared.ok_or(Refusal::unplaced(Reason::NotThere))?;
+    let variable = declared.ok_or(Reason::NotThere)?;
     let grade = grades.grade(finding.point, finding.variable)?;
     found_line(heap, finding, variable.name(), grade)
 }

@@ -52,7 +52,7 @@ fn settle<K: Kind, B: Book<K> + Copy>(
 {
     let progress = session.run(budget)?;
     if !progress.settled {
-        return Err(Refusal::unplaced(Reason::NotSettled));
+        return Err(Reason::NotSettled.into());
     }
     Ok(progress.rounds)
 }
@@ -79,7 +79,7 @@ impl<'a> Report<'a> {
         ensures { MatchResult result (λ n. Front (lines_text self.now.lines.items) buffer.old buffer.new n) (λ e. (length buffer.old < length (lines_text self.now.lines.items)) × (buffer.new ≡ buffer.old) × (e ≡ nowhere BufferTooShort)) }
     {
         if room_behind(&self.lines, buffer.len()).is_none() {
-            return Err(Refusal::unplaced(Reason::BufferTooShort));
+            return Err(Reason::BufferTooShort.into());
         }
         Ok(write_lines(buffer, &self.lines))
     }
@@ -89,7 +89,7 @@ impl<'a> Report<'a> {
         ensures { MatchResult result (λ t. t.items ≡ lines_text self.now.lines.items) (λ e. e ≡ no_memory) }
     {
         let left = room_behind(&self.lines, usize::MAX);
-        let left = left.ok_or(Refusal::unplaced(Reason::OutOfMemory))?;
+        let left = left.ok_or(Reason::OutOfMemory)?;
         let mut text = vec![in heap; 0; usize::MAX - left]?;
         write_lines(text.as_mut_slice(), &self.lines);
         Ok(text)

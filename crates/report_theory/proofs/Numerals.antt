@@ -9,6 +9,7 @@ use Rattle.std.specs.Fmt.{digits, digits_onto, digit_glyph}
 use Rattle.std.specs.Str.Parse.{digits_value}
 use Rattle.lexer.specs.Words.{digit}
 use Rattle.kinds.specs.Texts.{bound_text}
+use Rattle.kinds.specs.Laws.{at_rank, at_its_rank}
 use Rattle.kinds.specs.Values.{rank_of}
 use Rattle.kinds.specs.declared.bound.Bound.{Bound}
 use Rattle.kinds.specs.declared.bound.Bound.TheVariants.{Least, Whole, Greatest}
@@ -104,19 +105,6 @@ bound_once Greatest Least h k e = absurd (signs_differ _ _ (sym e))
 bound_once Greatest (Whole (pos m)) h k e = absurd (no_decimal 43 m _ refl e)
 bound_once Greatest (Whole (negsuc m)) h k e = absurd (not_infinite 43 45 (suc m) _ e)
 bound_once Greatest Greatest h k e = refl
-
--- the grade of a rank
-abbrev at_rank : ℕ → Grade
-at_rank zero = Unreached
-at_rank (suc zero) = Written
-at_rank (suc (suc zero)) = Sensed
-at_rank (suc (suc (suc n))) = Heard
-
-at_its_rank : (x : Grade) → at_rank (rank_of x) ≡ x
-at_its_rank Unreached = refl
-at_its_rank Written = refl
-at_its_rank Sensed = refl
-at_its_rank Heard = refl
 
 short_rank : (x : Grade) → Short (rank_of x)
 short_rank Unreached = omega arith

@@ -1,13 +1,11 @@
 -- Values of a script's bounds that counted rounds come to, and the ends of their intervals, are at most n × 2^31 in size, n the number of unknowns.
 use Rattle.std.proofs.Common.{ℕ, zero, suc, List, length, ℤ, pos, negsuc, neg_ℤ, Some, None, Option}
 use Rattle.std.proofs.Math.Logic.{∥∥₁_elim}
-use Rattle.std.proofs.Math.Bridge.{le_prop}
-use mathlib.Core.HLevel.{Unit-prop}
 use Rattle.kinds.specs.Values.{bounds, SizedBy}
 use Rattle.kinds.specs.Laws.{bounds_laws}
 use Rattle.kinds.specs.declared.bound.Bound.{Bound}
 use Rattle.kinds.specs.declared.bound.Bound.TheVariants.{Least, Whole, Greatest}
-use Rattle.kinds.proofs.Sizes.{made_sized}
+use Rattle.kinds.proofs.Sizes.{made_sized, sized_prop}
 use Rattle.books.specs.Books.{at}
 use Rattle.books.specs.Forms.{Well}
 use Rattle.strategy_theory.specs.Solving.{Stage}
@@ -18,11 +16,6 @@ use Rattle.language_theory.specs.Graphs.{Graph}
 use Rattle.script_equations_theory.specs.Bounds.{upper, lower, variables_of, bound_book}
 use Rattle.soundness_theory.specs.Intervals.{with_lower, ends, interval}
 use Rattle.report_theory.specs.Laws.{ComesAfter}
-
-sized_prop : (n : ℕ) (x : Bound) → IsProp (SizedBy n x)
-sized_prop n Least = Unit-prop
-sized_prop n (Whole a) = le_prop
-sized_prop n Greatest = Unit-prop
 
 sized_reached : (g : Graph) → Well bounds (bound_book g) → (k : ℕ) (y : List Bound) → ComesAfter bounds (bound_book g) k y → (u : ℕ) → SizedBy (length (bound_book g)) (at bounds y u)
 sized_reached g well k y r u = ∥∥₁_elim (f.sizes.of_value r.strategy y (record { long = stage.x_long; value = λ i q. stage.feasible.values i }) u) (sized_prop (length (bound_book g)) (at bounds y u)) made_sized

@@ -1,5 +1,6 @@
 -- Calls of an analysis in a session: a life goes on, and the flag tells whether it is settled.
 use Rattle.std.proofs.Common.{◌≡◌, ℕ, ◌≤◌, Bool, true, false, List, [], ◌∷◌, length, Ok, Err, Option, Result, IsErrAnd, sym, refl, ap, ◌∙◌, subst, arith}
+use Rattle.std.specs.Cmp.{both_ways}
 use mathlib.Core.Bool.{Bool-set}
 use Rattle.kinds.specs.Kinds.{Ops, Laws}
 use Rattle.base.specs.Reasons.{number_of}
@@ -23,12 +24,6 @@ use Rattle.solver.specs.Answers.{answered}
 use Rattle.soundness_theory.specs.Questions.{is_settled}
 use Rattle.soundness_theory.proofs.Settling.{settled_is}
 use Rattle.sessions.specs.Sessions.{Lived, Opens, CarriesOn}
-
--- tests that say the same
-same_bool : (a b : Bool) → (a ≡ true → b ≡ true) → (b ≡ true → a ≡ true) → a ≡ b
-same_bool true b f g = sym (f refl)
-same_bool false true f g = g refl
-same_bool false false f g = refl
 
 -- no rounds leave what was
 none_made : {V W : Type 0} (o : Ops V W) (m : List (List (Alternative V W))) {s₀ s : List (Option ℕ)} {x₀ x : List V} {ss : List (List (Option ℕ))} → Rounds o m s₀ x₀ ss s x → length ss ≡ 0 → (s ≡ s₀) × (x ≡ x₀)
@@ -54,7 +49,7 @@ module _ {V W : Type 0} (o : Ops V W) (l : Laws o) (m : List (List (Alternative 
   told_settled {s = s} c k b p =
       let said = p.said b refl in
       let test = settled_is o m s.values in
-      same_bool b (is_settled o m s.values)
+      both_ways b (is_settled o m s.values)
       (λ e. let q = said.0 e in test.1 (λ u h. le_of_eq o l (sym (q.same u h))))
       (λ e. said.1 (p.least (test.0 e)).solves)
 

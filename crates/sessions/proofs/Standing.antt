@@ -2,16 +2,14 @@
 use Rattle.std.proofs.Common.{◌≡◌, ℕ, ◌≤◌, true, List, length, ℤ, sym, ◌∙◌, arith}
 use Rattle.std.proofs.Math.Logic.{∥∥₁_elim}
 use Rattle.std.proofs.Math.Nat.{ℕ_set}
-use Rattle.std.proofs.Math.Bridge.{le_prop}
 use Rattle.std.proofs.lemmas.List.{length-map}
-use mathlib.Core.HLevel.{Unit-prop}
 use Rattle.kinds.specs.Limits.{most_items}
 use Rattle.kinds.specs.Kinds.{Ops, Laws, Made}
 use Rattle.kinds.specs.Values.{bounds, SizedBy, Near}
 use Rattle.kinds.specs.Laws.{bounds_laws}
 use Rattle.kinds.specs.declared.bound.Bound.{Bound}
 use Rattle.kinds.specs.declared.bound.Bound.TheVariants.{Least as Lowest, Whole, Greatest}
-use Rattle.kinds.proofs.Sizes.{made_sized}
+use Rattle.kinds.proofs.Sizes.{made_sized, sized_prop}
 use Rattle.books.specs.Books.{at, right, HoldsUp}
 use Rattle.books.specs.Entries.{values}
 use Rattle.books.specs.Forms.{Well}
@@ -65,11 +63,6 @@ sized_more : (j k : ℕ) (x : Bound) → j ≤ k → SizedBy j x → SizedBy k x
 sized_more j k Lowest h s = tt
 sized_more j k (Whole a) h s = omega arith
 sized_more j k Greatest h s = tt
-
-sized_prop : (k : ℕ) (x : Bound) → IsProp (SizedBy k x)
-sized_prop k Lowest = Unit-prop
-sized_prop k (Whole a) = le_prop
-sized_prop k Greatest = Unit-prop
 
 -- each bound of a state is an infinity or of allowed size
 pub near_of : (m : List (List (Alternative Bound ℤ))) → Well bounds m → (es : List (Entry Bound)) (n : ℕ) → ∥ Lived bounds m (state es n) ∥₁ → (u : ℕ) → Near (at bounds (values es) u)

@@ -27,7 +27,7 @@ use soundness_theory::Finding;
 use std::alloc::Global;
 
 // A call of a session on a script's bounds: one of the calls of every analysis; the interval of a variable at a point; or the findings, into a list of this length.
-#[derive(Clone, Copy)]
+#[derive(Clone, Copy, PartialEq, Eq, Debug)]
 pub enum ScriptCall {
     Plain(Call),
     Interval(usize, usize),
@@ -35,7 +35,7 @@ pub enum ScriptCall {
 }
 
 // What such a call answers that is not refused.
-#[derive(Drop)]
+#[derive(PartialEq, Eq, Debug, Drop)]
 pub enum ScriptAnswer {
     Plain(Answer<Bound>),
     Interval(Option<(Bound, Bound)>),
@@ -79,14 +79,10 @@ impl Session<'_, Bound, BoundBook<'_>> {
         ensures same_book { self.new.book ≡ self.old.book }
     {
         match call {
-            ScriptCall::Plain(call) => Ok(match self.make(call) {
-                Ok(answer) => Ok(ScriptAnswer::Plain(answer)),
-                Err(refusal) => Err(refusal),
-            }),
-            ScriptCall::Interval(point, variable) => Ok(match self.interval(point, variable) {
-                Ok(interval) => Ok(ScriptAnswer::Interval(interval)),
-                Err(refusal) => Err(refusal),
-            }),
+            ScriptCall::Plain(call) => Ok(self.make(call).map(ScriptAnswer::Plain)),
+            ScriptCall::Interval(point, variable) => {
+                Ok(self.interval(point, variable).map(ScriptAnswer::Interval))
+            }
             ScriptCall::Findings(length) => self.list_findings(heap, length),
         }
     }

@@ -89,10 +89,10 @@ impl Session<'_, Bound, BoundBook<'_>> {
         ensures life { GoesOn bounds (bound_book (meaning self.now.book.graph.now)) (ask (meaning self.now.book.graph.now)) (question (findings_into (length list.old))) (told (told_findings list.new result)) (state_of self.now.analysis) (state_of self.now.analysis) }
     {
         if !self.settled {
-            return Err(Refusal::unplaced(Reason::NotSettled));
+            return Err(Reason::NotSettled.into());
         }
         if list.len() < self.count_findings() {
-            return Err(Refusal::unplaced(Reason::ListTooShort));
+            return Err(Reason::ListTooShort.into());
         }
         self.fill(list)
     }

@@ -26,7 +26,7 @@ impl Session<'_, Grade, GradeBook<'_>> {
     {
         let unknown = self.book.grade_unknown(point, variable)?;
         if !self.settled {
-            return Err(Refusal::unplaced(Reason::NotSettled));
+            return Err(Reason::NotSettled.into());
         }
         self.analysis.value(unknown)
     }

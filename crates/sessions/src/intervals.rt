@@ -41,7 +41,7 @@ impl Session<'_, Bound, BoundBook<'_>> {
     {
         let upper = self.book.upper_unknown(point, variable)?;
         if !self.settled {
-            return Err(Refusal::unplaced(Reason::NotSettled));
+            return Err(Reason::NotSettled.into());
         }
         Ok(ends(self.analysis.value(upper)?, self.analysis.value(upper + 1)?))
     }

@@ -57,7 +57,7 @@ impl<'a, K: Kind> Analysis<'a, K> {
         ensures theory { Stands K.Kind.ops }
     {
         let Some(front) = list.get_mut(0..book.count()) else {
-            return Err(Refusal::unplaced(Reason::ListTooShort));
+            return Err(Reason::ListTooShort.into());
         };
         Ok(Analysis::begin(front))
     }
@@ -89,7 +89,7 @@ impl<'a, K: Kind> Analysis<'a, K> {
         ensures same_list { self.new.list.ghost_name ≡ self.old.list.ghost_name }
     {
         let Ok(budget) = u16::try_from(budget) else {
-            return Err(Refusal::unplaced(Reason::BudgetTooLarge));
+            return Err(Reason::BudgetTooLarge.into());
         };
         Ok(self.advance(book, budget))
     }
@@ -108,10 +108,7 @@ impl<'a, K: Kind> Analysis<'a, K> {
     fn entry_at(&self, unknown: usize) -> Result<Entry<K>, Refusal>
         ensures { MatchResult result (λ e. (unknown < length self.now.list.now) × (e ≡ slice_index_or self.now.list.now unknown e)) (λ e. (length self.now.list.now ≤ unknown) × (e ≡ nowhere NotThere)) }
     {
-        self.list
-            .get(unknown)
-            .copied()
-            .ok_or(Refusal::unplaced(Reason::NotThere))
+        Ok(self.list.get(unknown).copied().ok_or(Reason::NotThere)?)
     }
 
     // The value of an unknown.

@@ -13,7 +13,7 @@ use books::{Book, Entry};
 use kinds::Kind;
 
 // A call of an analysis: a value, not a closure, since `make_calls` promises something of every list of calls.
-#[derive(Clone, Copy)]
+#[derive(Clone, Copy, PartialEq, Eq, Debug)]
 pub enum Call {
     Round,
     Run(usize),
@@ -24,7 +24,7 @@ pub enum Call {
 }
 
 // What a call answers that is not refused: what a round or a run came to; done; a value; a choice; or the counted rounds.
-#[derive(Clone, Copy)]
+#[derive(Clone, Copy, PartialEq, Eq, Debug)]
 pub enum Answer<K> {
     Made(Progress),
     Done,
@@ -88,7 +88,7 @@ pub fn make_calls<K: Kind, B: Book<K>>(
 {
     let count = book.count();
     if list.len() < count || answers.len() < calls.len() {
-        return Err(Refusal::unplaced(Reason::ListTooShort));
+        return Err(Reason::ListTooShort.into());
     }
     // By range: of a list cut by its `get_mut` a proof learns only the length, and the clause says what lies behind.
     Ok(make_all(book, &mut list[0..count], calls, answers))

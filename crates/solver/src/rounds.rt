@@ -9,7 +9,7 @@ use kinds::Kind;
 
 // What a round or a run came to: the counted rounds that it made, and whether the analysis is settled then.
 // A flag beside the rounds, not an `Option`: the rounds are told in both cases.
-#[derive(Clone, Copy)]
+#[derive(Clone, Copy, PartialEq, Eq, Debug)]
 pub struct Progress {
     pub rounds: u16,
     pub settled: bool,

@@ -15,28 +15,8 @@ module _ {V W Q A : Type 0} (o : Ops V W) (m : List (List (Alternative V W))) (a
   pub kept_as : (b : Answer V A) (ss : List (List (Option ℕ))) → Keeps b ss s b ss s
   kept_as b ss = record { answer = refl; past = refl; state = refl }
 
-  -- the state after a run
-  abbrev pub ran_to : ℕ → List (Option ℕ) → List V → State V
-  ran_to k t x = record { strategy = t; values = x; shown = min most_rounds (s.shown + k) }
-
-  -- a run that has settled
-  pub run_settled : (b : ℕ) (ts : List (List (Option ℕ))) (t : List (Option ℕ)) (x : List V) → Rounds o m s.strategy s.values ts t x → length ts ≤ b → Settled o m x →
-      (ss : List (List (Option ℕ))) → Runs o m {A = A} b ss s (made (length ts) true) (ts ++ ss) (ran_to (length ts) t x)
-  run_settled b ts t x r h q ss = record { k = length ts; settled = true; ts = ts; answer = refl; past = refl; rounds = r; counted = refl; within = h; said = (λ e. q, λ e. refl); whole = λ e. absurd (true≢false e); shown = refl }
-
-  -- a run that has used its budget
-  pub run_used : (b : ℕ) (ts : List (List (Option ℕ))) (t : List (Option ℕ)) (x : List V) → Rounds o m s.strategy s.values ts t x → length ts ≡ b → Unsettled o m x →
-      (ss : List (List (Option ℕ))) → Runs o m {A = A} b ss s (made (length ts) false) (ts ++ ss) (ran_to (length ts) t x)
-  run_used b ts t x r h q ss = record { k = length ts; settled = false; ts = ts; answer = refl; past = refl; rounds = r; counted = refl; within = omega arith; said = (λ e. absurd (false≢true e), λ e. absurd (both_never o m x e q)); whole = λ e. h; shown = refl }
-
-  pub does_run : (b : ℕ) (a : Answer V A) (ss ss' : List (List (Option ℕ))) (s' : State V) → b ≤ most_rounds → Runs o m b ss s a ss' s' → Does o m ask (run b) ss s a ss' s'
-  does_run b a ss ss' s' h r = inl (h, r)
-
   pub does_refuse : (b : ℕ) → most_rounds < b → (ss : List (List (Option ℕ))) → Does o m ask (run b) ss s (refused 32) ss s
   does_refuse b h ss = inr (h, kept_as (refused 32) ss)
-
-  pub does_restart : (ss : List (List (Option ℕ))) → Does o m ask restart ss s done [] (begun o m)
-  does_restart ss = record { answer = refl; past = refl; state = refl }
 
   pub does_value : (u : ℕ) → u < length m → (ss : List (List (Option ℕ))) → Does o m ask (value_of u) ss s (value (at o s.values u)) ss s
   does_value u h ss = inl (h, kept_as (value (at o s.values u)) ss)

@@ -12,13 +12,6 @@ use Rattle.strategy_theory.specs.Sweeping.Replaced.{again}
 use Rattle.strategy_theory.proofs.Chains.{rounds_few}
 
 module _ {V W : Type 0} (o : Ops V W) (l : Laws o) where
-  -- the improved strategy, place by place
-  pub improved_none : (m : List (List (Alternative V W))) (x : List V) (s : List (Option ℕ)) → map (switched o m x s) (range_with_len 0 0) ≡ []
-  improved_none m x s = refl
-
-  pub improved_more : (m : List (List (Alternative V W))) (x : List V) (s : List (Option ℕ)) (i : ℕ) → map (switched o m x s) (range_with_len 0 (i + 1)) ≡ map (switched o m x s) (range_with_len 0 i) ++ switched o m x s i ∷ []
-  improved_more m x s i = map-range_with_len_more (switched o m x s) 0 i i (omega arith)
-
   -- a sweep, place by place
   module _ (c : ℕ → Option (Alternative V W)) where
     pub relaxed_at_none : (z : List V) (u : ℕ) → c u ≡ None → relaxed o c z u ≡ z

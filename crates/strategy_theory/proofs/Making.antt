@@ -1,6 +1,5 @@
 -- each call of an analysis, from what its code has computed to the life that goes on with it
 use Rattle.std.proofs.Common.{◌≡◌, ℕ, zero, suc, ◌+◌, ◌<◌, ◌≤◌, min, Bool, List, [], ◌∷◌, ◌++◌, map, length, get_or, replicate, None, Option, sym, refl, ap, ◌∙◌, subst, inl, arith}
-use Rattle.std.proofs.lemmas.List.{length-map}
 use Rattle.kinds.specs.Limits.{most_rounds}
 use Rattle.kinds.specs.Kinds.{Ops, Laws}
 use Rattle.books.specs.Books.{at}
@@ -16,7 +15,7 @@ use Rattle.strategy_theory.specs.Lives.Answer.{made, done, value, choice, number
 use Rattle.strategy_theory.specs.Lives.Life.{set_up, after}
 use Rattle.strategy_theory.specs.Calls.{state, unasked, fresh_entry, fresh, Begins, Prolongs}
 use Rattle.strategy_theory.proofs.Keeping.{promised}
-use Rattle.strategy_theory.proofs.Turns.{short_rounds}
+use Rattle.strategy_theory.proofs.Turns.{short_rounds, ready_long}
 use Rattle.strategy_theory.proofs.Calls.{does_refuse, does_value, does_no_value, does_choice, does_no_choice, does_rounds}
 
 map_replicate : {X Y : Type 0} (f : X → Y) (n : ℕ) (d : X) → map f (replicate n d) ≡ replicate n (f d)
@@ -43,9 +42,6 @@ module _ {V W : Type 0} (o : Ops V W) (l : Laws o) where
         let r = d (ready_of es n h ss life) ss in
         (r.0, after c a life r.1, promised o m unasked l well (after c a life r.1))
 
-    long_of : (es : List (Entry V)) → Ready o m es → length es ≡ length m
-    long_of es r = sym (length-map es (λ (e : Entry V). e.value)) ∙ r.stage.x_long
-
     pub runs_of : (b : ℕ) (es : List (Entry V)) (n k : ℕ) (t : Bool) (es' : List (Entry V)) (n' : ℕ) → (Ready o m es → Ran o m b es k t es') → k ≤ b → n' ≡ min (n + k) most_rounds →
         Ready o m es → (ss : List (List (Option ℕ))) → (ss' : List (List (Option ℕ))) × Runs o m {A = ⊥} b ss (state es n) (made k t) ss' (state es' n')
     runs_of b es n k t es' n' f le e r ss =
@@ -63,21 +59,21 @@ module _ {V W : Type 0} (o : Ops V W) (l : Laws o) where
       refuses_run b h = goes_on (run b) (refused 32) es n (state es n) (λ r ss. (ss, does_refuse o m unasked (state es n) b h ss))
 
       pub restarts : Prolongs o m restart done (state es n) (state (fresh o (length es)) 0)
-      restarts = goes_on restart done es n _ (λ r ss. ([], record { answer = refl; past = refl; state = fresh_state m (length es) (long_of es r) }))
+      restarts = goes_on restart done es n _ (λ r ss. ([], record { answer = refl; past = refl; state = fresh_state m (length es) (ready_long o l m well es r) }))
 
       pub shows_value : (u : ℕ) (v : V) → u < length es → v ≡ at o (values es) u → Prolongs o m (value_of u) (value v) (state es n) (state es n)
       shows_value u v h e = goes_on (value_of u) (value v) es n (state es n)
-          (λ r ss. let g = long_of es r in (ss, subst (λ (y : V). Does o m unasked (value_of u) ss (state es n) (value y) ss (state es n)) (sym e) (does_value o m unasked (state es n) u (omega arith) ss)))
+          (λ r ss. let g = ready_long o l m well es r in (ss, subst (λ (y : V). Does o m unasked (value_of u) ss (state es n) (value y) ss (state es n)) (sym e) (does_value o m unasked (state es n) u (omega arith) ss)))
 
       pub refuses_value : (u : ℕ) → length es ≤ u → Prolongs o m (value_of u) (refused 30) (state es n) (state es n)
-      refuses_value u h = goes_on (value_of u) (refused 30) es n (state es n) (λ r ss. let g = long_of es r in (ss, does_no_value o m unasked (state es n) u (omega arith) ss))
+      refuses_value u h = goes_on (value_of u) (refused 30) es n (state es n) (λ r ss. let g = ready_long o l m well es r in (ss, does_no_value o m unasked (state es n) u (omega arith) ss))
 
       pub shows_choice : (u : ℕ) (k : Option ℕ) → u < length es → k ≡ get_or (choices es) u None → Prolongs o m (choice_of u) (choice k) (state es n) (state es n)
       shows_choice u k h e = goes_on (choice_of u) (choice k) es n (state es n)
-          (λ r ss. let g = long_of es r in (ss, subst (λ (j : Option ℕ). Does o m unasked (choice_of u) ss (state es n) (choice j) ss (state es n)) (sym e) (does_choice o m unasked (state es n) u (omega arith) ss)))
+          (λ r ss. let g = ready_long o l m well es r in (ss, subst (λ (j : Option ℕ). Does o m unasked (choice_of u) ss (state es n) (choice j) ss (state es n)) (sym e) (does_choice o m unasked (state es n) u (omega arith) ss)))
 
       pub refuses_choice : (u : ℕ) → length es ≤ u → Prolongs o m (choice_of u) (refused 30) (state es n) (state es n)
-      refuses_choice u h = goes_on (choice_of u) (refused 30) es n (state es n) (λ r ss. let g = long_of es r in (ss, does_no_choice o m unasked (state es n) u (omega arith) ss))
+      refuses_choice u h = goes_on (choice_of u) (refused 30) es n (state es n) (λ r ss. let g = ready_long o l m well es r in (ss, does_no_choice o m unasked (state es n) u (omega arith) ss))
 
       pub shows_rounds : Prolongs o m rounds_shown (number n) (state es n) (state es n)
       shows_rounds = goes_on rounds_shown (number n) es n (state es n) (λ r ss. (ss, does_rounds o m unasked (state es n) ss))

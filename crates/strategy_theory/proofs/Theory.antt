@@ -11,6 +11,7 @@ use Rattle.books.specs.declared.Term.TheVariants.{Shifted}
 use Rattle.books.specs.declared.Alternative.{Alternative}
 use Rattle.std.proofs.lemmas.Bool.{cases_Bool}
 use Rattle.books.proofs.Order.{Le, never_both, le_or_lt, le_of_eq, le_trans, lt_of_lt_le, not_least, greater_either}
+use Rattle.books.proofs.Asked.{inside_nth}
 use Rattle.books.proofs.Worth.{no_option, option_cases, Under, worth_is, best_over}
 use native.Mathlib.Decide.{dec_lt}
 use Rattle.std.proofs.lemmas.List.FromFn.{length-map-range_with_len, get_or-map-range_with_len}
@@ -26,11 +27,6 @@ use Rattle.strategy_theory.proofs.Codes.{InRange}
 pick_nil : {A : Type 0} (k : Option ℕ) → pick {A = A} [] k ≡ None
 pick_nil None = refl
 pick_nil (Some k) = refl
-
-nth_inside : {A : Type 0} (bs : List A) (k : ℕ) (a : A) → nth bs k ≡ Some a → k < length bs
-nth_inside [] k a e = absurd (no_option e)
-nth_inside (b ∷ bs) zero a e = omega arith
-nth_inside (b ∷ bs) (suc k) a e = let h = nth_inside bs k a e in omega arith
 
 -- a chosen alternative is worth at most the right side
 module _ {V W : Type 0} (o : Ops V W) (l : Laws o) where
@@ -169,7 +165,7 @@ module _ {V W : Type 0} (o : Ops V W) (l : Laws o) (m : List (List (Alternative 
         go (yes h) (inl q) = r u k (sym (improved_at u h ∙ switched_keeps u q) ∙ e)
         go (yes h) (inr q) = let f = reached_at u q in
             let j : f.k ≡ k = same_some f.is (sym (improved_at u h ∙ switched_reach u q) ∙ e) in
-            subst (λ (i : ℕ). i < length (get_or m u [])) j (nth_inside (get_or m u []) f.k f.a f.named)
+            subst (λ (i : ℕ). i < length (get_or m u [])) j (inside_nth (get_or m u []) f.k f.a f.named)
 
   -- one round
   module _ (s : List (Option ℕ)) (x : List V) (st : Stage o m s x) where

@@ -13,7 +13,7 @@ returns-then-not-progress-clause-end g c = λ e.
     inr (
       known.refusal.0,
       moves g.K.Kind.ops (g.B.Book.equations s.book) c.args.budget p.rounds p.settled (state_of s.analysis) (state_of c.run.new.self.analysis) e known.life (not-true p.settled c.if-not-progress.true),
-      c.unplaced.ensures,
+      c.into.ensures,
     )
 
 pub returns-clause-end : goal.returns-clause-end

@@ -46,7 +46,7 @@ returns-then-list-count g c = record {
           | then-list-count-via-then-list-count w ↦ inl (omega (arith, w.if-list-count.true, c.count-count.ensures))
           | then-list-count-via-else-list-count+then-answers-calls w ↦ inr w.if-answers-calls.true
         ];
-    refusal = c.unplaced.ensures;
+    refusal = c.into.ensures;
     same = refl;
     same_answers = refl;
   };

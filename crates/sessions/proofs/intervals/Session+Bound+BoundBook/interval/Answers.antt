@@ -8,7 +8,7 @@ returns-in_err-upper-clause-life c =
 
 pub returns-then-not-self-clause-life : goal.returns-then-not-self-clause-life
 returns-then-not-self-clause-life c =
-    goes_on c.args.self.now.book.graph.now c.args.self.now.analysis.list.now c.args.self.now.analysis.rounds c.args.self.now.lived c.args.point c.args.variable (Err c.unplaced.result) (search rules)
+    goes_on c.args.self.now.book.graph.now c.args.self.now.analysis.list.now c.args.self.now.analysis.rounds c.args.self.now.lived c.args.point c.args.variable (Err c.into.result) (search rules)
 
 pub returns-in_err-value-clause-answer : goal.returns-in_err-value-clause-answer
 returns-in_err-value-clause-answer c =

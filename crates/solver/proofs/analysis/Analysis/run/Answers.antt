@@ -10,7 +10,7 @@ use Rattle.solver.proofs.analysis.Analysis.run.Goals as goal
 pub returns-in_default-clause-life : goal.returns-in_default-clause-life
 returns-in_default-clause-life g c =
     told_no_run g.K.Kind.ops g.met.K.Kind.laws (g.B.Book.equations c.args.book.now) (g.met.B.Book.well c.args.book.now) c.args.self.now.list.now c.args.self.now.rounds
-    c.args.budget c.unplaced.result c.args.self.now.list.now (search rules) c.unplaced.ensures refl
+    c.args.budget c.into.result c.args.self.now.list.now (search rules) c.into.ensures refl
 
 pub returns-clause-life : goal.returns-clause-life
 returns-clause-life g c =

@@ -1,0 +1,149 @@
+// Systems and scripts whose least solutions are known and proved, and the analyses of the systems, call by call: each call with what it answered.
+#![tactic(auto)]
+
+mod descending;
+mod scripts;
+mod systems;
+
+use base::Refusal;
+use books::{Book, Entry};
+use kinds::{Bound, Kind};
+use solver::{Analysis, Answer, Call, Progress, make_calls};
+use std::{fmt, io};
+use systems::{CopiedGrade, System};
+
+// The calls that every system gets: questions and refused ones before, between and behind the rounds.
+const CALLS: [Call; 16] = [
+    Call::Value(0),
+    Call::Choice(0),
+    Call::Round,
+    Call::Value(0),
+    Call::Choice(0),
+    Call::Run(65536),
+    Call::Run(0),
+    Call::Run(65535),
+    Call::Value(0),
+    Call::Value(1),
+    Call::Value(2),
+    Call::Rounds,
+    Call::Round,
+    Call::Restart,
+    Call::Rounds,
+    Call::Run(1),
+];
+
+// A call, as it is printed.
+#[derive(Clone, Copy)]
+struct Asked(Call);
+
+impl fmt::Display for Asked {
+    fn fmt<W: fmt::Write>(&self, f: &mut fmt::Formatter<W>) -> fmt::Result {
+        match self.0 {
+            Call::Round => write!(f, "round"),
+            Call::Run(budget) => write!(f, "run of {budget}"),
+            Call::Restart => write!(f, "restart"),
+            Call::Value(unknown) => write!(f, "value of u{unknown}"),
+            Call::Choice(unknown) => write!(f, "choice of u{unknown}"),
+            Call::Rounds => write!(f, "rounds"),
+        }
+    }
+}
+
+// What a round or a run came to, as it is printed.
+#[derive(Clone, Copy)]
+struct Reached(Progress);
+
+impl fmt::Display for Reached {
+    fn fmt<W: fmt::Write>(&self, f: &mut fmt::Formatter<W>) -> fmt::Result {
+        let state = if self.0.settled {
+            "settled"
+        } else {
+            "not settled"
+        };
+        write!(f, "{} counted, {state}", self.0.rounds)
+    }
+}
+
+// A refusal of a call, as it is printed: its phase and its number, since it has no place.
+#[derive(Clone, Copy)]
+struct Refused(Refusal);
+
+impl fmt::Display for Refused {
+    fn fmt<W: fmt::Write>(&self, f: &mut fmt::Formatter<W>) -> fmt::Result {
+        let reason = self.0.reason;
+        write!(f, "refused {} {}", reason.phase(), reason.number())
+    }
+}
+
+// An answer, as it is printed.
+#[derive(Clone, Copy)]
+struct Answered<K>(Result<Answer<K>, Refusal>);
+
+impl<K: Kind + fmt::Display> fmt::Display for Answered<K> {
+    fn fmt<W: fmt::Write>(&self, f: &mut fmt::Formatter<W>) -> fmt::Result {
+        match self.0 {
+            Ok(Answer::Made(progress)) => write!(f, "{}", Reached(progress)),
+            Ok(Answer::Done) => write!(f, "done"),
+            Ok(Answer::Shown(value)) => write!(f, "{value}"),
+            Ok(Answer::Chosen(Some(number))) => write!(f, "alternative {number}"),
+            Ok(Answer::Chosen(None)) => write!(f, "none"),
+            Ok(Answer::Counted(rounds)) => write!(f, "{rounds}"),
+            Err(refusal) => write!(f, "{}", Refused(refusal)),
+        }
+    }
+}
+
+// Makes all the calls of the list on a book and prints them with their answers.
+fn live<K: Kind + fmt::Display, B: Book<K>>(
+    rt: &HostRuntime,
+    name: &str,
+    book: &B,
+) -> io::Result<()> {
+    println!(rt; "{name}")?;
+    let entry = Entry {
+        value: K::greatest(),
+        choice: None,
+    };
+    let mut list = vec![in rt.alloc(); entry; 2]?;
+    let mut answers = vec![in rt.alloc(); Ok(Answer::Done); CALLS.len()]?;
+    if let Err(refusal) = make_calls(book, list.as_mut_slice(), &CALLS, answers.as_mut_slice()) {
+        return println!(rt; "{}", Refused(refusal));
+    }
+    for (call, answer) in CALLS.iter().zip(&answers) {
+        println!(rt; "  {}: {}", Asked(*call), Answered(*answer))?;
+    }
+    Ok(())
+}
+
+// Sets an analysis up in a list of that many entries and holds it over several calls.
+fn hold(rt: &HostRuntime, entries: usize) -> io::Result<()> {
+    println!(rt; "u0 = max(0, u1), u1 = u0, in a list of {entries}")?;
+    let entry = Entry {
+        value: Bound::Greatest,
+        choice: None,
+    };
+    let mut list = vec![in rt.alloc(); entry; entries]?;
+    let mut analysis = match Analysis::set_up(&System::Copying, list.as_mut_slice()) {
+        Ok(analysis) => analysis,
+        Err(refusal) => return println!(rt; "  set-up: {}", Refused(refusal)),
+    };
+    println!(rt; "  round: {}", Reached(analysis.round(&System::Copying)))?;
+    match analysis.run(&System::Copying, 5) {
+        Ok(progress) => println!(rt; "  run of 5: {}", Reached(progress))?,
+        Err(refusal) => println!(rt; "  run of 5: {}", Refused(refusal))?,
+    }
+    println!(rt; "  rounds: {}", analysis.rounds())
+}
+
+// The six systems of bounds, the one of grades, and an analysis that is held.
+fn main(rt: HostRuntime) -> io::Result<()> {
+    live(&rt, "no unknowns", &System::Nothing)?;
+    live(&rt, "u0 = max(0, u1), u1 = u0", &System::Copying)?;
+    live(&rt, "u0 = max(0, min(u0 + 1, 9))", &System::Capped)?;
+    live(&rt, "u0 = max(0, u0 + 1)", &System::Growing)?;
+    live(&rt, "u0 = u0 + 1", &System::Groundless)?;
+    live(&rt, "u0 = max(0, u0 - 1)", &System::Falling)?;
+    live(&rt, "grades: u0 = max(1, u1), u1 = u0", &CopiedGrade)?;
+    hold(&rt, 1)?;
+    hold(&rt, 2)
+}

@@ -1,4 +1,0 @@
-pub mod Drawings
-pub mod Resting
-pub mod Running
-pub mod Whole

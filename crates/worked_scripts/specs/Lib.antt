@@ -1,2 +1,0 @@
-pub mod Scripts
-pub mod Shown
