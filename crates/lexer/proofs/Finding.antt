@@ -13,7 +13,6 @@ use Rattle.lexer.specs.declared.Word.{Word}
 use Rattle.lexer.specs.declared.Word.TheVariants.{Sign}
 use Rattle.lexer.specs.declared.Fault.{Fault}
 use Rattle.base.specs.declared.Reason.{Reason}
-use Rattle.base.specs.declared.Reason.TheVariants.{NoWord}
 use Rattle.base.specs.declared.Place.{Place}
 use Rattle.lexer.specs.declared.Mark.{Mark}
 use Rattle.lexer.specs.Parts.{taken, WordsStand}
