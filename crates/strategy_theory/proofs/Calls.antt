@@ -1,15 +1,12 @@
 -- what each call does, from what its code has computed
-use Rattle.std.proofs.Common.{◌≡◌, ℕ, ◌+◌, ◌<◌, ◌≤◌, min, true, false, List, [], ◌++◌, length, get_or, None, Option, refl, inl, inr, true≢false, arith}
-use mathlib.Core.Bool.{false≢true}
+use Rattle.std.proofs.Common.{ℕ, ◌<◌, ◌≤◌, List, length, get_or, None, Option, refl, inl, inr}
 use Rattle.kinds.specs.Limits.{most_rounds}
 use Rattle.kinds.specs.Kinds.{Ops}
 use Rattle.books.specs.Books.{at}
-use Rattle.strategy_theory.specs.Solving.{Settled, Unsettled, Rounds}
 use Rattle.books.specs.declared.Alternative.{Alternative}
-use Rattle.strategy_theory.specs.Lives.{State, Answer, Keeps, begun, Runs, Does}
-use Rattle.strategy_theory.specs.Lives.Call.{run, restart, value_of, choice_of, rounds_shown, question}
-use Rattle.strategy_theory.specs.Lives.Answer.{made, done, value, choice, number, told, refused}
-use Rattle.strategy_theory.proofs.Histories.{both_never}
+use Rattle.strategy_theory.specs.Lives.{State, Answer, Keeps, Does}
+use Rattle.strategy_theory.specs.Lives.Call.{run, value_of, choice_of, rounds_shown, question}
+use Rattle.strategy_theory.specs.Lives.Answer.{value, choice, number, told, refused}
 
 module _ {V W Q A : Type 0} (o : Ops V W) (m : List (List (Alternative V W))) (ask : State V → Q → A) (s : State V) where
   pub kept_as : (b : Answer V A) (ss : List (List (Option ℕ))) → Keeps b ss s b ss s

@@ -1,12 +1,11 @@
 -- steps of loops that compute a right side, the first alternative that reaches it, the improved strategy and the sweeps
-use Rattle.std.proofs.Common.{◌≡◌, ℕ, zero, suc, ◌+◌, ◌-◌, ◌<◌, List, [], ◌∷◌, ◌++◌, map, length, set, Some, None, Option, refl, ap, add-one, arith}
+use Rattle.std.proofs.Common.{◌≡◌, ℕ, zero, suc, ◌+◌, ◌-◌, ◌<◌, List, [], ◌∷◌, ◌++◌, length, set, Some, None, Option, ap, add-one, arith}
 use Rattle.kinds.specs.Kinds.{Ops, Laws}
 use Rattle.books.specs.Books.{terms}
 use Rattle.books.specs.declared.Alternative.{Alternative}
-use Rattle.std.specs.List.{range_with_len}
 use Rattle.std.proofs.lemmas.List.FromFn.{map-range_with_len_more}
 use Rattle.books.specs.Forms.{Well}
-use Rattle.strategy_theory.specs.Solving.{switched, Stage, Rounds, count}
+use Rattle.strategy_theory.specs.Solving.{Stage, Rounds, count}
 use Rattle.strategy_theory.specs.Sweeping.{relaxed, relaxed_by, swept, sweeps, opened, opening, Replaced}
 use Rattle.strategy_theory.specs.Sweeping.Replaced.{again}
 use Rattle.strategy_theory.proofs.Chains.{rounds_few}
