@@ -1,5 +1,5 @@
 -- Calls of an analysis in a session: a life goes on, and the flag tells whether it is settled.
-use Rattle.std.proofs.Common.{◌≡◌, ℕ, ◌≤◌, Bool, true, false, List, [], ◌∷◌, length, Ok, Err, Option, Result, IsErrAnd, sym, refl, ap, ◌∙◌, subst, arith}
+use Rattle.std.proofs.Common.{◌≡◌, ℕ, ◌≤◌, Bool, List, [], ◌∷◌, length, Ok, Err, Option, Result, IsErrAnd, sym, refl, ap, ◌∙◌, subst, arith}
 use Rattle.std.specs.Cmp.{both_ways}
 use mathlib.Core.Bool.{Bool-set}
 use Rattle.kinds.specs.Kinds.{Ops, Laws}
