@@ -116,7 +116,7 @@ impl fmt::Display for Entries<'_> {
         f.write_str("\nedges into")?;
         // By number: points have nothing but numbers.
         for point in 0..self.0.points() {
-            write!(f, " {point}{}", Sources(self.0.incoming(point)))?;
+            write!(f, " {point}{}", Sources(self.0.incoming(point).unwrap_or(&[])))?;
         }
         Ok(())
     }

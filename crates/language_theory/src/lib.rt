@@ -4,40 +4,69 @@
 
 use base::Place;
 
-// The whole numbers from `low` to `high`.
-#[derive(Clone, Copy)]
+/// The whole numbers from `low` to `high`.
+#[derive(Clone, Copy, PartialEq, Eq, Debug)]
 pub struct Range {
     pub low: i64,
     pub high: i64,
 }
 
-// Where a value comes from: written in the script, sensed by the station, or heard over the air.
-// Not the grades of the solver: there is no source for what nothing reaches, and sources have no order.
-#[derive(Clone, Copy)]
+/// Where a value comes from: written in the script, sensed by the station, or heard over the air.
+/// Not the grades of the solver: there is no source for what nothing reaches, and sources have no order.
+#[derive(Clone, Copy, PartialEq, Eq, Debug)]
 pub enum Source {
     Written,
     Sensed,
     Heard,
 }
 
-// What an edge does, by the numbers of the variables.
-//   Any(k, r, s): k := any of r, from s          Read(k, i, r): the last edge of k := t[i], where r is the range of t
-//   Shift(k, i, c): k := i + c                   Negate(k, i): k := -i
-//   AtMost(i, c): i <= c    AtLeast(i, c): i >= c    Before(i, k, d): i <= k + d
-#[derive(Clone, Copy)]
-pub enum Action {
-    Skip,
-    Any(usize, Range, Source),
-    Read(usize, usize, Range),
-    Shift(usize, usize, i64),
-    Negate(usize, usize),
-    AtMost(usize, i64),
-    AtLeast(usize, i64),
-    Before(usize, usize, i64),
+/// What an assignment sets its target to. Variables are given by their numbers.
+#[derive(Clone, Copy, PartialEq, Eq, Debug)]
+pub enum Value {
+    /// Any number of the range; a constant is a range of one number, from `Source::Written`.
+    AnyOf { range: Range, source: Source },
+    /// The entry at the variable `index` of a table whose range this is: the last edge of `k := t[i]`.
+    TableEntry { index: usize, range: Range },
+    /// The variable plus the constant.
+    Sum { variable: usize, constant: i64 },
+    /// The variable, negated.
+    Negation { variable: usize },
 }
 
-// An edge from a point to a point, with the place of the first word of the statement that made it.
-#[derive(Clone, Copy)]
+/// What has to hold of the values for an edge to be taken. Variables are given by their numbers.
+#[derive(Clone, Copy, PartialEq, Eq, Debug)]
+pub enum Guard {
+    /// `variable <= limit`
+    AtMost {
+        variable: usize,
+        limit: i64,
+    },
+    /// `variable >= limit`
+    AtLeast {
+        variable: usize,
+        limit: i64,
+    },
+    /// `left <= right + distance`
+    Difference {
+        left: usize,
+        right: usize,
+        distance: i64,
+    },
+}
+
+/// What an edge does.
+#[derive(Clone, Copy, PartialEq, Eq, Debug)]
+pub enum Action {
+    /// Nothing.
+    Skip,
+    /// Sets the variable `target`.
+    Assign { target: usize, value: Value },
+    /// Lets through where the guard holds, and changes nothing.
+    Assume { guard: Guard },
+}
+
+/// An edge from a point to a point, with the place of the first word of the statement that made it.
+#[derive(Clone, Copy, PartialEq, Eq, Debug)]
 pub struct Edge {
     pub source: usize,
     pub target: usize,
@@ -45,8 +74,8 @@ pub struct Edge {
     pub place: Place,
 }
 
-// A table read: the point before it, its index variable, its table, and where the index name stands.
-#[derive(Clone, Copy)]
+/// A table read: the point before it, its index variable, its table, and where the index name stands.
+#[derive(Clone, Copy, PartialEq, Eq, Debug)]
 pub struct Lookup {
     pub point: usize,
     pub index: usize,

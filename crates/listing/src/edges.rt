@@ -1,11 +1,11 @@
 // Edges: where they lead, and what they do in the words of a script.
 ghost use Rattle.std.specs.Prelude.{◌≡◌, Some};
 ghost use Rattle.std.proofs.Math.Utf8.{encodes};
-ghost use Rattle.listing.specs.Edges.{chosen_text, sum_text, effect_text, edge_line};
+ghost use Rattle.listing.specs.Edges.{chosen_text, sum_text, value_text, guard_text, effect_text, edge_line};
 ghost use Rattle.listing.specs.Names.{named, variable_names};
 
 use crate::parts::{Name, Span, name_at};
-use language_theory::{Action, Edge, Range, Source};
+use language_theory::{Action, Edge, Guard, Range, Source, Value};
 use parser::Variable;
 use std::fmt;
 
@@ -21,6 +21,20 @@ pub struct EdgeLine<'a> {
 struct Effect<'a> {
     variables: &'a [Variable],
     action: Action,
+}
+
+// What an assignment sets its target to.
+#[derive(Drop)]
+struct Assigned<'a> {
+    variables: &'a [Variable],
+    value: Value,
+}
+
+// What has to hold.
+#[derive(Drop)]
+struct Assumed<'a> {
+    variables: &'a [Variable],
+    guard: Guard,
 }
 
 // Any number of a range, by the source that it comes from. A range that is written has one number.
@@ -49,22 +63,14 @@ impl fmt::Display for EdgeLine<'_> {
     }
 }
 
-impl<'a> Effect<'a> {
-    // The name of a variable by its number.
-    fn name(&self, number: usize) -> Name<'a>
-        ensures { result.0.now ≡ named (variable_names self.now.variables.now) number }
-    {
-        name_at(self.variables, number)
-    }
-
-    // A variable and the number that is added to it.
-    fn sum(&self, number: usize, added: i64) -> Sum<'a>
-        ensures { (result.name.0.now ≡ named (variable_names self.now.variables.now) number) × (result.added ≡ added) }
-    {
-        Sum {
-            name: self.name(number),
-            added,
-        }
+// A variable and the number that is added to it.
+fn sum_at(variables: &[Variable], number: usize, added: i64) -> Sum<'_>
+    ensures name { result.name.0.now ≡ named (variable_names variables.now) number }
+    ensures added { result.added ≡ added }
+{
+    Sum {
+        name: name_at(variables, number),
+        added,
     }
 }
 
@@ -74,25 +80,75 @@ impl fmt::Display for Effect<'_> {
     fn fmt<W: fmt::Write>(&self, f: &mut fmt::Formatter<W>) -> fmt::Result {
         match self.action {
             Action::Skip => f.write_str("skip"),
-            Action::Any(k, range, source) => write!(
+            Action::Assign { target, value } => {
+                let value = Assigned {
+                    variables: self.variables,
+                    value,
+                };
+                write!(f, "{} := {value}", name_at(self.variables, target))
+            }
+            Action::Assume { guard } => {
+                let guard = Assumed {
+                    variables: self.variables,
+                    guard,
+                };
+                write!(f, "{guard}")
+            }
+        }
+    }
+}
+
+impl fmt::Display for Assigned<'_> {
+    ghost output = { λ x. Some (value_text (variable_names x.variables.now) x.value) };
+
+    fn fmt<W: fmt::Write>(&self, f: &mut fmt::Formatter<W>) -> fmt::Result {
+        match self.value {
+            Value::AnyOf { range, source } => write!(f, "{}", Chosen { source, range }),
+            Value::TableEntry { index, range } => {
+                let name = name_at(self.variables, index);
+                write!(f, "any of {} (read by {name})", Span(range))
+            }
+            Value::Sum { variable, constant } => write!(
                 f,
-                "{} := {}",
-                self.name(k),
-                Chosen { source, range }
+                "{}",
+                sum_at(self.variables, variable, constant)
             ),
-            Action::Read(k, i, range) => write!(
+            Value::Negation { variable } => write!(f, "-{}", name_at(self.variables, variable)),
+        }
+    }
+}
+
+impl fmt::Display for Assumed<'_> {
+    ghost output = { λ x. Some (guard_text (variable_names x.variables.now) x.guard) };
+
+    fn fmt<W: fmt::Write>(&self, f: &mut fmt::Formatter<W>) -> fmt::Result {
+        match self.guard {
+            Guard::AtMost { variable, limit } => write!(
                 f,
-                "{} := any of {} (read by {})",
-                self.name(k),
-                Span(range),
-                self.name(i)
+                "{} <= {limit}",
+                name_at(self.variables, variable)
             ),
-            Action::Shift(k, i, c) => write!(f, "{} := {}", self.name(k), self.sum(i, c)),
-            Action::Negate(k, i) => write!(f, "{} := -{}", self.name(k), self.name(i)),
-            Action::AtMost(i, c) => write!(f, "{} <= {c}", self.name(i)),
-            Action::AtLeast(i, c) => write!(f, "{} >= {c}", self.name(i)),
-            Action::Before(i, k, -1) => write!(f, "{} < {}", self.name(i), self.name(k)),
-            Action::Before(i, k, d) => write!(f, "{} <= {}", self.name(i), self.sum(k, d)),
+            Guard::AtLeast { variable, limit } => write!(
+                f,
+                "{} >= {limit}",
+                name_at(self.variables, variable)
+            ),
+            Guard::Difference {
+                left,
+                right,
+                distance: -1,
+            } => {
+                let right = name_at(self.variables, right);
+                write!(f, "{} < {right}", name_at(self.variables, left))
+            }
+            Guard::Difference {
+                left,
+                right,
+                distance,
+            } => {
+                let right = sum_at(self.variables, right, distance);
+                write!(f, "{} <= {right}", name_at(self.variables, left))
+            }
         }
     }
 }

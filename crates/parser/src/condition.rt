@@ -3,18 +3,18 @@ ghost use Rattle.std.specs.Prelude.{◌≡◌, [], ◌∷◌, MatchResult};
 ghost use Rattle.language_theory.specs.Grammar as grammar;
 ghost use Rattle.language_theory.specs.Expected.Expect.{condition, operator, operand};
 ghost use Rattle.language_theory.specs.Readings.{Anywhere, TurnsBack, Over, KnowsAsks, is_operator, is_operand, is_condition};
-ghost use Rattle.parser.specs.Models.{left as left_of, order_of, guard_of, opposite_of, SmallOperand};
+ghost use Rattle.parser.specs.Models.{left as left_of, order_of, guard_of, opposite_of, Small, SmallOperand};
 ghost use Rattle.parser.specs.Scripts.{Reads, Halts, BehindOrder, operand_in, condition_in};
 
 use crate::names::same_name;
 use crate::script::Script;
 use crate::sentence::Sentence;
 use base::{Reason, Refusal};
-use language_theory::Action;
+use language_theory::{Action, Guard};
 use lexer::Mark;
 
 // How two values lie.
-#[derive(Clone, Copy)]
+#[derive(Clone, Copy, PartialEq, Eq, Debug)]
 pub enum Order {
     Below,
     AtMost,
@@ -23,7 +23,7 @@ pub enum Order {
 }
 
 // What a variable is compared with: another, by its number, or a constant.
-#[derive(Clone, Copy)]
+#[derive(Clone, Copy, PartialEq, Eq, Debug)]
 pub enum Operand {
     Against(usize),
     Limit(i64),
@@ -31,7 +31,7 @@ pub enum Operand {
 
 // A variable compared with another or with a constant. That the constant is small is said by the clauses: as a ghost field
 // of this type it would be owed by the definition `condition_of` too, and a tree's constants may be of any size.
-#[derive(Clone, Copy)]
+#[derive(Clone, Copy, PartialEq, Eq, Debug)]
 pub struct Condition {
     pub left: usize,
     pub order: Order,
@@ -101,24 +101,54 @@ impl Order {
 impl Condition {
     // The guard of the edge on which the condition holds; a strict comparison with a constant moves it by one.
     pub(crate) fn holds(self) -> Action
-        ensures { SmallOperand self.right → result ≡ guard_of self.left self.order self.right }
+        ensures { SmallOperand self.right → result ≡ Assume (guard_of self.left self.order self.right) }
     {
-        let i = self.left;
-        match (self.order, self.right) {
-            (Order::Below, Operand::Against(k)) => Action::Before(i, k, -1),
-            (Order::AtMost, Operand::Against(k)) => Action::Before(i, k, 0),
-            (Order::Above, Operand::Against(k)) => Action::Before(k, i, -1),
-            (Order::AtLeast, Operand::Against(k)) => Action::Before(k, i, 0),
-            (Order::Below, Operand::Limit(c)) => Action::AtMost(i, c.saturating_sub(1)),
-            (Order::AtMost, Operand::Limit(c)) => Action::AtMost(i, c),
-            (Order::Above, Operand::Limit(c)) => Action::AtLeast(i, c.saturating_add(1)),
-            (Order::AtLeast, Operand::Limit(c)) => Action::AtLeast(i, c),
+        let guard = match self.right {
+            Operand::Against(other) => self.difference(other),
+            Operand::Limit(limit) => self.limited(limit),
+        };
+        Action::Assume { guard }
+    }
+
+    // The guard against another variable.
+    fn difference(self, other: usize) -> Guard
+        ensures { result ≡ guard_of self.left self.order (Against other) }
+    {
+        let (left, right, distance) = match self.order {
+            Order::Below => (self.left, other, -1),
+            Order::AtMost => (self.left, other, 0),
+            Order::Above => (other, self.left, -1),
+            Order::AtLeast => (other, self.left, 0),
+        };
+        Guard::Difference {
+            left,
+            right,
+            distance,
+        }
+    }
+
+    // The guard against a constant.
+    fn limited(self, limit: i64) -> Guard
+        ensures { Small limit → result ≡ guard_of self.left self.order (Limit limit) }
+    {
+        let variable = self.left;
+        match self.order {
+            Order::Below => Guard::AtMost {
+                variable,
+                limit: limit.saturating_sub(1),
+            },
+            Order::AtMost => Guard::AtMost { variable, limit },
+            Order::Above => Guard::AtLeast {
+                variable,
+                limit: limit.saturating_add(1),
+            },
+            Order::AtLeast => Guard::AtLeast { variable, limit },
         }
     }
 
     // The guard of the edge on which it fails.
     pub(crate) fn fails(self) -> Action
-        ensures { SmallOperand self.right → result ≡ guard_of self.left (opposite_of self.order) self.right }
+        ensures { SmallOperand self.right → result ≡ Assume (guard_of self.left (opposite_of self.order) self.right) }
     {
         let opposite = Condition {
             order: self.order.opposite(),

@@ -12,25 +12,51 @@ ghost use Rattle.parser.specs.Scripts.{Reads, Halts, BehindMark, variable_in, si
 use crate::script::Script;
 use crate::sentence::{Sentence, negative};
 use base::{Place, Reason, Refusal};
-use language_theory::{Range, Source};
+use language_theory::{Range, Source, Value};
 use lexer::Mark;
 
-// A table read: the numbers of the table and of the variable that is its index, and the place of the index.
-#[derive(Clone, Copy)]
+/// A table read: the numbers of the table and of the variable that is its index, and the place of the index.
+#[derive(Clone, Copy, PartialEq, Eq, Debug)]
 pub struct Reading {
     pub table: usize,
     pub index: usize,
     pub place: Place,
 }
 
-// A right side, by the numbers of its variables and tables.
-#[derive(Clone, Copy)]
+/// A right side, by the numbers of its variables and tables: the value of an assignment, or a table read, which is
+/// more than one edge.
+#[derive(Clone, Copy, PartialEq, Eq, Debug)]
 pub enum Side {
-    Constant(i64),
-    Shifted(usize, i64),
-    Negated(usize),
-    Any(Source, Range),
+    Value(Value),
     Entry(Reading),
+}
+
+// A constant, as a value: a written range of one number.
+fn constant(number: i64) -> Side
+    ensures { result ≡ fixed number }
+{
+    let range = Range {
+        low: number,
+        high: number,
+    };
+    Side::Value(Value::AnyOf {
+        range,
+        source: Source::Written,
+    })
+}
+
+// Any number of a range.
+fn any_of(range: Range, source: Source) -> Side
+    ensures { result ≡ Value (AnyOf range source) }
+{
+    Side::Value(Value::AnyOf { range, source })
+}
+
+// A variable and what is added to it.
+fn sum(variable: usize, constant: i64) -> Side
+    ensures { result ≡ Value (Sum variable constant) }
+{
+    Side::Value(Value::Sum { variable, constant })
 }
 
 // Takes const .. const.
@@ -55,16 +81,16 @@ impl<'a> Script<'a> {
             return self.read_named();
         }
         if self.sentence.accept(Mark::Hear) {
-            return Ok(Side::Any(Source::Heard, read_range(&mut self.sentence)?));
+            return Ok(any_of(read_range(&mut self.sentence)?, Source::Heard));
         }
         if self.sentence.accept(Mark::Sense) {
-            return Ok(Side::Any(Source::Sensed, read_range(&mut self.sentence)?));
+            return Ok(any_of(read_range(&mut self.sentence)?, Source::Sensed));
         }
         if self.sentence.accept(Mark::Minus) {
             return self.read_negative();
         }
         let (n, _) = self.sentence.number()?;
-        Ok(Side::Constant(i64::from(n)))
+        Ok(constant(i64::from(n)))
     }
 
     // Takes what follows - at the front of a right side.
@@ -73,11 +99,11 @@ impl<'a> Script<'a> {
     {
         if self.sentence.at_name() {
             let (name, place) = self.sentence.name()?;
-            let i = self.names.variable(name, place)?;
-            return Ok(Side::Negated(i));
+            let variable = self.names.variable(name, place)?;
+            return Ok(Side::Value(Value::Negation { variable }));
         }
         let (n, _) = self.sentence.number()?;
-        Ok(Side::Constant(negative(n)))
+        Ok(constant(negative(n)))
     }
 
     // Takes a right side that begins with a name, a table's exactly if [ follows.
@@ -98,13 +124,13 @@ impl<'a> Script<'a> {
         // Each sign by itself: one function for both would promise three outcomes, and say no more than this.
         if self.sentence.accept(Mark::Plus) {
             let (n, _) = self.sentence.number()?;
-            return Ok(Side::Shifted(i, i64::from(n)));
+            return Ok(sum(i, i64::from(n)));
         }
         if self.sentence.accept(Mark::Minus) {
             let (n, _) = self.sentence.number()?;
-            return Ok(Side::Shifted(i, negative(n)));
+            return Ok(sum(i, negative(n)));
         }
-        Ok(Side::Shifted(i, 0))
+        Ok(sum(i, 0))
     }
 
     // Takes the index of a table read, and its bracket; answers the index and its place.

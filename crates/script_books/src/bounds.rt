@@ -95,7 +95,9 @@ impl Book<Bound> for BoundBook<'_> {
         Ok(if spot.point == 0 {
             1
         } else {
-            self.graph.incoming(spot.point).len()
+            self.graph
+                .incoming(spot.point)
+                .map_or(0, |edges| edges.len())
         })
     }
 

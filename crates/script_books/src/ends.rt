@@ -8,7 +8,7 @@ ghost use Rattle.script_equations_theory.specs.Bounds.{as_is, copied as copied_o
 use crate::start::Start;
 use books::{Alternative, Term, Terms, Test};
 use kinds::Bound;
-use language_theory::Action;
+use language_theory::{Action, Guard, Value};
 
 // An alternative of a bound.
 pub(crate) type Choice = Alternative<Bound, i64>;
@@ -43,43 +43,103 @@ fn given(start: Start, variable: usize, constant: i64) -> Choice
     }
 }
 
-// An unknown as it is, or where a guard names its variable the smaller of that and the limit.
-fn limited(unknown: usize, named: bool, limit: Term<Bound, i64>) -> Terms<Bound, i64>
-    ensures { result ≡ cond named (Two (as_is unknown) limit) (One (as_is unknown)) }
+// Whether a guard can hold.
+fn can_hold(start: Start, guard: Guard) -> Test<Bound>
+    requires { GuardFits start.variables guard }
+    ensures { result ≡ can_hold_at start.variables start.point guard }
 {
-    let own = Term::Shifted(unknown, 0);
-    if named {
-        Terms::Two(own, limit)
-    } else {
-        Terms::One(own)
+    match guard {
+        Guard::AtMost { variable, limit } => Test::Single(
+            start.lower(variable),
+            Bound::Whole(negated(limit)),
+        ),
+        Guard::AtLeast { variable, limit } => Test::Single(
+            start.upper(variable),
+            Bound::Whole(limit),
+        ),
+        Guard::Difference {
+            left,
+            right,
+            distance,
+        } => Test::Joint(
+            start.lower(left),
+            start.upper(right),
+            Bound::Whole(negated(distance)),
+        ),
     }
 }
 
-// Whether a guard i <= c can hold.
-fn low_enough(start: Start, i: usize, c: i64) -> Test<Bound>
-    requires named { i < start.variables }
-    requires size { small c ≡ true }
-    ensures { result ≡ low_enough_at start.variables start.point i c }
+// The upper bound of a variable behind its assignment.
+fn upper_assigned(start: Start, target: usize, value: Value) -> Choice
+    requires named { target < start.variables }
+    requires fits { ValueFits start.variables value }
+    ensures { result ≡ upper_of_value start.variables start.point target value }
 {
-    Test::Single(start.lower(i), Bound::Whole(negated(c)))
+    match value {
+        Value::AnyOf { range, .. } => given(start, target, range.high),
+        Value::TableEntry { range, .. } => given(start, target, range.high),
+        Value::Sum { variable, constant } => Alternative::shifted(start.upper(variable), constant),
+        Value::Negation { variable } => copied(start.lower(variable)),
+    }
 }
 
-// Whether a guard i >= c can hold.
-fn high_enough(start: Start, i: usize, c: i64) -> Test<Bound>
-    requires { i < start.variables }
-    ensures { result ≡ high_enough_at start.variables start.point i c }
+// Its lower bound, negated.
+fn lower_assigned(start: Start, target: usize, value: Value) -> Choice
+    requires named { target < start.variables }
+    requires fits { ValueFits start.variables value }
+    ensures { result ≡ lower_of_value start.variables start.point target value }
 {
-    Test::Single(start.upper(i), Bound::Whole(c))
+    match value {
+        Value::AnyOf { range, .. } => given(start, target, negated(range.low)),
+        Value::TableEntry { range, .. } => given(start, target, negated(range.low)),
+        Value::Sum { variable, constant } => Alternative::shifted(
+            start.lower(variable),
+            negated(constant),
+        ),
+        Value::Negation { variable } => copied(start.upper(variable)),
+    }
 }
 
-// Whether a guard i <= k + d can hold.
-fn apart_enough(start: Start, i: usize, k: usize, d: i64) -> Test<Bound>
-    requires first { i < start.variables }
-    requires second { k < start.variables }
-    requires size { small d ≡ true }
-    ensures { result ≡ apart_enough_at start.variables start.point i k d }
+// The upper bound of a variable, and what a guard that limits it from above says.
+fn upper_assumed(start: Start, variable: usize, guard: Guard) -> Terms<Bound, i64>
+    requires named { variable < start.variables }
+    requires fits { GuardFits start.variables guard }
+    ensures { result ≡ upper_under start.variables start.point variable guard }
 {
-    Test::Joint(start.lower(i), start.upper(k), Bound::Whole(negated(d)))
+    let own = Term::Shifted(start.upper(variable), 0);
+    match guard {
+        Guard::AtMost {
+            variable: limited,
+            limit,
+        } if variable == limited => Terms::Two(own, Term::Constant(Bound::Whole(limit))),
+        Guard::Difference {
+            left,
+            right,
+            distance,
+        } if variable == left => Terms::Two(own, Term::Shifted(start.upper(right), distance)),
+        Guard::AtMost { .. } | Guard::AtLeast { .. } | Guard::Difference { .. } => Terms::One(own),
+    }
+}
+
+// The lower bound of a variable, negated, and what a guard that limits it from below says.
+fn lower_assumed(start: Start, variable: usize, guard: Guard) -> Terms<Bound, i64>
+    requires named { variable < start.variables }
+    requires fits { GuardFits start.variables guard }
+    ensures { result ≡ lower_under start.variables start.point variable guard }
+{
+    let own = Term::Shifted(start.lower(variable), 0);
+    match guard {
+        Guard::AtLeast {
+            variable: limited,
+            limit,
+        } if variable == limited => Terms::Two(own, Term::Constant(Bound::Whole(negated(limit)))),
+        Guard::Difference {
+            left,
+            right,
+            distance,
+        } if variable == right => Terms::Two(own, Term::Shifted(start.lower(left), distance)),
+        Guard::AtMost { .. } | Guard::AtLeast { .. } | Guard::Difference { .. } => Terms::One(own),
+    }
 }
 
 // The upper bound of a variable behind an edge.
@@ -88,28 +148,14 @@ pub(crate) fn upper_of(start: Start, variable: usize, action: Action) -> Choice
     requires fits { ActionFits start.variables action }
     ensures { result ≡ upper_for start.variables start.point variable action }
 {
-    let own = start.upper(variable);
     match action {
-        Action::Any(k, range, _) if variable == k => given(start, k, range.high),
-        Action::Read(k, _, range) if variable == k => given(start, k, range.high),
-        Action::Shift(k, i, c) if variable == k => Alternative::shifted(start.upper(i), c),
-        Action::Negate(k, i) if variable == k => copied(start.lower(i)),
-        Action::Skip
-        | Action::Any(..)
-        | Action::Read(..)
-        | Action::Shift(..)
-        | Action::Negate(..) => copied(own),
-        Action::AtMost(i, c) => Alternative {
-            test: low_enough(start, i, c),
-            terms: limited(own, variable == i, Term::Constant(Bound::Whole(c))),
-        },
-        Action::AtLeast(i, c) => Alternative {
-            test: high_enough(start, i, c),
-            terms: Terms::One(Term::Shifted(own, 0)),
-        },
-        Action::Before(i, k, d) => Alternative {
-            test: apart_enough(start, i, k, d),
-            terms: limited(own, variable == i, Term::Shifted(start.upper(k), d)),
+        Action::Assign { target, value } if variable == target => upper_assigned(
+            start, target, value,
+        ),
+        Action::Skip | Action::Assign { .. } => copied(start.upper(variable)),
+        Action::Assume { guard } => Alternative {
+            test: can_hold(start, guard),
+            terms: upper_assumed(start, variable, guard),
         },
     }
 }
@@ -120,28 +166,14 @@ pub(crate) fn lower_of(start: Start, variable: usize, action: Action) -> Choice
     requires fits { ActionFits start.variables action }
     ensures { result ≡ lower_for start.variables start.point variable action }
 {
-    let own = start.lower(variable);
     match action {
-        Action::Any(k, range, _) if variable == k => given(start, k, negated(range.low)),
-        Action::Read(k, _, range) if variable == k => given(start, k, negated(range.low)),
-        Action::Shift(k, i, c) if variable == k => Alternative::shifted(start.lower(i), negated(c)),
-        Action::Negate(k, i) if variable == k => copied(start.upper(i)),
-        Action::Skip
-        | Action::Any(..)
-        | Action::Read(..)
-        | Action::Shift(..)
-        | Action::Negate(..) => copied(own),
-        Action::AtMost(i, c) => Alternative {
-            test: low_enough(start, i, c),
-            terms: Terms::One(Term::Shifted(own, 0)),
-        },
-        Action::AtLeast(i, c) => Alternative {
-            test: high_enough(start, i, c),
-            terms: limited(own, variable == i, Term::Constant(Bound::Whole(negated(c)))),
-        },
-        Action::Before(i, k, d) => Alternative {
-            test: apart_enough(start, i, k, d),
-            terms: limited(own, variable == k, Term::Shifted(start.lower(i), d)),
+        Action::Assign { target, value } if variable == target => lower_assigned(
+            start, target, value,
+        ),
+        Action::Skip | Action::Assign { .. } => copied(start.lower(variable)),
+        Action::Assume { guard } => Alternative {
+            test: can_hold(start, guard),
+            terms: lower_assumed(start, variable, guard),
         },
     }
 }

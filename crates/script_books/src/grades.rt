@@ -17,7 +17,7 @@ use crate::start::Start;
 use base::{Reason, Refusal};
 use books::{Alternative, Book, Term, Terms, Test};
 use kinds::{Grade, NoWeight};
-use language_theory::{Action, Source};
+use language_theory::{Action, Source, Value};
 use script_graph::graph::Graph;
 
 // The equations of where the value of each variable of a script comes from at each point. A view of the graph, as the bound book is.
@@ -70,6 +70,23 @@ fn copied(unknown: usize) -> Choice
     Alternative::shifted(unknown, NoWeight::Zero)
 }
 
+// The grade of a variable behind its assignment.
+fn assigned(start: Start, target: usize, value: Value) -> Choice
+    requires named { target < start.variables }
+    requires fits { ValueFits start.variables value }
+    ensures { result ≡ grade_assigned start.variables start.point target value }
+{
+    match value {
+        Value::AnyOf { source, .. } => Alternative {
+            test: Test::Single(start.grade(target), Grade::Written),
+            terms: Terms::One(Term::Constant(graded(source))),
+        },
+        Value::TableEntry { index, .. } => copied(start.grade(index)),
+        Value::Sum { variable, .. } => copied(start.grade(variable)),
+        Value::Negation { variable } => copied(start.grade(variable)),
+    }
+}
+
 // The grade of a variable behind an edge.
 fn grade_of(start: Start, variable: usize, action: Action) -> Choice
     requires named { variable < start.variables }
@@ -77,14 +94,10 @@ fn grade_of(start: Start, variable: usize, action: Action) -> Choice
     ensures { result ≡ grade_for start.variables start.point variable action }
 {
     match action {
-        Action::Any(k, _, source) if variable == k => Alternative {
-            test: Test::Single(start.grade(k), Grade::Written),
-            terms: Terms::One(Term::Constant(graded(source))),
-        },
-        Action::Read(k, i, _) if variable == k => copied(start.grade(i)),
-        Action::Shift(k, i, _) if variable == k => copied(start.grade(i)),
-        Action::Negate(k, i) if variable == k => copied(start.grade(i)),
-        _ => copied(start.grade(variable)),
+        Action::Assign { target, value } if variable == target => assigned(start, target, value),
+        Action::Skip | Action::Assign { .. } | Action::Assume { .. } => copied(start.grade(
+            variable,
+        )),
     }
 }
 
@@ -128,7 +141,9 @@ impl Book<Grade> for GradeBook<'_> {
         Ok(if spot.point == 0 {
             1
         } else {
-            self.graph.incoming(spot.point).len()
+            self.graph
+                .incoming(spot.point)
+                .map_or(0, |edges| edges.len())
         })
     }
 

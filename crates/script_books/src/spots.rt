@@ -54,7 +54,7 @@ pub(crate) fn edge_to(graph: &Graph, point: usize, number: usize) -> Result<Edge
     ensures edge { result ≡ found (nth (incoming point graph.now.edges.items) number) }
     ensures fits { IfOk result (λ e. EdgeFits (meaning graph.now) e) }
 {
-    match graph.incoming(point).get(number) {
+    match graph.incoming(point).and_then(|edges| edges.get(number)) {
         Some(edge) => Ok(*edge),
         None => Err(Refusal::unplaced(Reason::NotThere)),
     }

@@ -9,7 +9,7 @@ use crate::drawing::Drawing;
 use crate::names::Names;
 use crate::side::{Reading, Side};
 use base::{Place, Refusal};
-use language_theory::{Action, Range, Source};
+use language_theory::{Action, Guard, Value};
 
 impl Drawing {
     // A table read: index at least 0, index at most size - 1, then any of the table's range.
@@ -24,10 +24,19 @@ impl Drawing {
     {
         let (size, range) = names.shape(reading.table);
         let index = reading.index;
+        let at_least = Guard::AtLeast {
+            variable: index,
+            limit: 0,
+        };
+        let at_most = Guard::AtMost {
+            variable: index,
+            limit: i64::from(size) - 1,
+        };
+        let value = Value::TableEntry { index, range };
         self.note(reading)?;
-        self.onward(Action::AtLeast(index, 0), place)?;
-        self.onward(Action::AtMost(index, i64::from(size) - 1), place)?;
-        self.onward(Action::Read(k, index, range), place)
+        self.onward(Action::Assume { guard: at_least }, place)?;
+        self.onward(Action::Assume { guard: at_most }, place)?;
+        self.onward(Action::Assign { target: k, value }, place)
     }
 
     // The assignment of a right side to the variable k.
@@ -41,13 +50,7 @@ impl Drawing {
         ensures { MatchResult result (λ _. drawn_so self.new ≡ assigned (vars_of names.now) (tabs_of names.now) place k right (drawn_so self.old)) (λ e. e ≡ no_memory) }
     {
         match right {
-            Side::Constant(c) => self.onward(
-                Action::Any(k, Range { low: c, high: c }, Source::Written),
-                place,
-            ),
-            Side::Shifted(i, c) => self.onward(Action::Shift(k, i, c), place),
-            Side::Negated(i) => self.onward(Action::Negate(k, i), place),
-            Side::Any(source, range) => self.onward(Action::Any(k, range, source), place),
+            Side::Value(value) => self.onward(Action::Assign { target: k, value }, place),
             Side::Entry(reading) => self.look_up(names, place, k, reading),
         }
     }

@@ -42,13 +42,11 @@ impl Graph {
         &self.lookups
     }
 
-    // The edges to a point, in the order made; none where there is no such point.
-    pub fn incoming(&self, point: usize) -> &[Edge]
-        ensures { result.now ≡ (if nat_lt point self.now.points then leading_to point self.now.edges.items else []) }
+    /// The edges to a point, in the order made; `None` where there is no such point.
+    pub fn incoming(&self, point: usize) -> Option<&[Edge]>
+        ensures { MatchOption result (self.now.points ≤ point)
+            (λ edges. (point < self.now.points) × (edges.now ≡ leading_to point self.now.edges.items)) }
     {
-        match self.incoming.get(point) {
-            Some(edges) => edges,
-            None => &[],
-        }
+        self.incoming.get(point).map(|edges| edges.as_slice())
     }
 }
