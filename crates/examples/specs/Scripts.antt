@@ -5,7 +5,9 @@ use Rattle.kinds.specs.declared.bound.Bound.TheVariants.{Whole}
 use Rattle.language_theory.specs.Graphs.{Graph, only}
 use Rattle.language_theory.specs.declared.Range.{Range}
 use Rattle.language_theory.specs.declared.Source.TheVariants.{Written, Heard}
-use Rattle.language_theory.specs.declared.Action.TheVariants.{Skip, Any, Shift, Before}
+use Rattle.language_theory.specs.declared.Action.TheVariants.{Skip, Assign, Assume}
+use Rattle.language_theory.specs.declared.Guard.TheVariants.{Difference}
+use Rattle.language_theory.specs.declared.Value.TheVariants.{AnyOf, Sum}
 use Rattle.language_theory.specs.Examples.{at, range, edge}
 
 -- a loop that counts up to a variable
@@ -20,10 +22,10 @@ counting_to_n_graph = record {
   points = 5;
   edges =
       edge 0 1 Skip (at 1 29) ∷
-      edge 1 2 (Before 0 1 (negsuc 0)) (at 1 29) ∷
-      edge 2 3 (Shift 0 0 (pos 1)) (at 1 43) ∷
+      edge 1 2 (Assume (Difference 0 1 (negsuc 0))) (at 1 29) ∷
+      edge 2 3 (Assign 0 (Sum 0 (pos 1))) (at 1 43) ∷
       edge 3 1 Skip (at 1 29) ∷
-      edge 1 4 (Before 1 0 (pos 0)) (at 1 29) ∷ [];
+      edge 1 4 (Assume (Difference 1 0 (pos 0))) (at 1 29) ∷ [];
   lookups = [];
 }
 
@@ -41,7 +43,7 @@ hearing_graph = record {
   variables = record { name = codes "i"; range = range 0 0 } ∷ [];
   tables = [];
   points = 3;
-  edges = edge 0 1 (Any 0 (only (pos 5)) Written) (at 2 1) ∷ edge 1 2 (Any 0 around_zero Heard) (at 3 1) ∷ [];
+  edges = edge 0 1 (Assign 0 (AnyOf (only (pos 5)) Written)) (at 2 1) ∷ edge 1 2 (Assign 0 (AnyOf around_zero Heard)) (at 3 1) ∷ [];
   lookups = [];
 }
 

@@ -11,7 +11,9 @@ use Rattle.language_theory.specs.Names.Outcome.{drawn}
 use Rattle.language_theory.specs.Examples.{at, range, edge, counting, counting_graph, looking_up, looking_up_graph, choosing, choosing_graph}
 use Rattle.language_theory.specs.declared.Source.TheVariants.{Written, Sensed, Heard}
 use Rattle.language_theory.specs.declared.Action.{Action}
-use Rattle.language_theory.specs.declared.Action.TheVariants.{Skip, Any, Read, Shift, Negate, AtMost, AtLeast, Before}
+use Rattle.language_theory.specs.declared.Action.TheVariants.{Skip, Assign, Assume}
+use Rattle.language_theory.specs.declared.Guard.TheVariants.{AtMost, AtLeast, Difference}
+use Rattle.language_theory.specs.declared.Value.TheVariants.{AnyOf, TableEntry, Sum, Negation}
 use Rattle.language_theory.specs.declared.Lookup.{Lookup}
 use Rattle.script_equations_theory.specs.Bounds.{bound_book}
 use Rattle.script_equations_theory.specs.Grades.{grade_book}
@@ -87,21 +89,21 @@ the_read = record { point = 0; index = 0; table = 0; place = at 3 10 }
 pub record RunsShown : Type 0 where
   -- i becomes 5, and then -1, which is heard
   pub draws_hearing : Verdict hearing (drawn hearing_graph)
-  pub gives : GoesAlong hearing_graph (Any 0 (only (pos 5)) Written) 0 (pos 0 ∷ []) 1 (pos 5 ∷ [])
-  pub hears : GoesAlong hearing_graph (Any 0 around_zero Heard) 1 (pos 5 ∷ []) 2 (negsuc 0 ∷ [])
+  pub gives : GoesAlong hearing_graph (Assign 0 (AnyOf (only (pos 5)) Written)) 0 (pos 0 ∷ []) 1 (pos 5 ∷ [])
+  pub hears : GoesAlong hearing_graph (Assign 0 (AnyOf around_zero Heard)) 1 (pos 5 ∷ []) 2 (negsuc 0 ∷ [])
   -- i is 5 and n is 4: i becomes 2, which is sensed, and then 0
   pub draws_choosing : Verdict choosing (drawn choosing_graph)
-  pub at_or_above : GoesAlong choosing_graph (Before 1 0 (pos 0)) 0 (pos 5 ∷ pos 4 ∷ []) 1 (pos 5 ∷ pos 4 ∷ [])
-  pub senses : GoesAlong choosing_graph (Any 0 (range 0 5) Sensed) 1 (pos 5 ∷ pos 4 ∷ []) 2 (pos 2 ∷ pos 4 ∷ [])
+  pub at_or_above : GoesAlong choosing_graph (Assume (Difference 1 0 (pos 0))) 0 (pos 5 ∷ pos 4 ∷ []) 1 (pos 5 ∷ pos 4 ∷ [])
+  pub senses : GoesAlong choosing_graph (Assign 0 (AnyOf (range 0 5) Sensed)) 1 (pos 5 ∷ pos 4 ∷ []) 2 (pos 2 ∷ pos 4 ∷ [])
   pub skips : GoesAlong choosing_graph Skip 2 (pos 2 ∷ pos 4 ∷ []) 5 (pos 2 ∷ pos 4 ∷ [])
-  pub shifts : GoesAlong choosing_graph (Shift 0 0 (negsuc 1)) 5 (pos 2 ∷ pos 4 ∷ []) 6 (pos 0 ∷ pos 4 ∷ [])
+  pub shifts : GoesAlong choosing_graph (Assign 0 (Sum 0 (negsuc 1))) 5 (pos 2 ∷ pos 4 ∷ []) 6 (pos 0 ∷ pos 4 ∷ [])
   -- i is 1 and n is 3: i becomes -3
-  pub below : GoesAlong choosing_graph (Before 0 1 (negsuc 0)) 0 (pos 1 ∷ pos 3 ∷ []) 3 (pos 1 ∷ pos 3 ∷ [])
-  pub negates : GoesAlong choosing_graph (Negate 0 1) 3 (pos 1 ∷ pos 3 ∷ []) 4 (negsuc 2 ∷ pos 3 ∷ [])
+  pub below : GoesAlong choosing_graph (Assume (Difference 0 1 (negsuc 0))) 0 (pos 1 ∷ pos 3 ∷ []) 3 (pos 1 ∷ pos 3 ∷ [])
+  pub negates : GoesAlong choosing_graph (Assign 0 (Negation 1)) 3 (pos 1 ∷ pos 3 ∷ []) 4 (negsuc 2 ∷ pos 3 ∷ [])
   -- i is 2: it becomes 4, which is read
-  pub at_least : GoesAlong looking_up_graph (AtLeast 0 (pos 0)) 0 (pos 2 ∷ []) 1 (pos 2 ∷ [])
-  pub at_most : GoesAlong looking_up_graph (AtMost 0 (pos 3)) 1 (pos 2 ∷ []) 2 (pos 2 ∷ [])
-  pub reads : GoesAlong looking_up_graph (Read 0 0 (range 0 4)) 2 (pos 2 ∷ []) 3 (pos 4 ∷ [])
+  pub at_least : GoesAlong looking_up_graph (Assume (AtLeast 0 (pos 0))) 0 (pos 2 ∷ []) 1 (pos 2 ∷ [])
+  pub at_most : GoesAlong looking_up_graph (Assume (AtMost 0 (pos 3))) 1 (pos 2 ∷ []) 2 (pos 2 ∷ [])
+  pub reads : GoesAlong looking_up_graph (Assign 0 (TableEntry 0 (range 0 4))) 2 (pos 2 ∷ []) 3 (pos 4 ∷ [])
   -- i is 4, outside a table of size 4
   pub reads_outside : OutsideRead looking_up_graph the_read (pos 4 ∷ [])
   -- the loop of `counting` ends with i at 10

@@ -21,7 +21,7 @@ use Rattle.language_theory.specs.Readings.New.{new_variable, new_table}
 use Rattle.language_theory.specs.Readings.Boundary.{at_start, behind_semicolon}
 use Rattle.language_theory.proofs.Passing.{pass_word, broken_word, decided_word}
 use Rattle.language_theory.proofs.Steps.{before-++, passed-++, words_before, first_mark}
-use Rattle.language_theory.proofs.Drawings.{length_vars, length_tables}
+use Rattle.language_theory.proofs.Names.{length_vars, length_tables}
 
 -- none, and one more
 pub declared_none : (t : Text) → Declared [] [] t t

@@ -1,6 +1,7 @@
 -- A text passes exactly if it is the script of a tree that keeps the rules.
 use Rattle.std.proofs.Common.{◌≡◌, ℕ, suc, ◌<◌, ◌≤◌, Bool, true, false, cond, not, ◌||◌, eqb, ltb, leb, List, [], ◌∷◌, ◌++◌, length, ℤ, pos, neg_ℤ, sym, refl, ap, ◌∙◌, append_assoc, append-nil, arith}
 use lib.Signed.{lt_z}
+use Rattle.std.proofs.Math.Bool.{or-false}
 use Rattle.std.proofs.lemmas.Bool.{false≢true, or_parts, or_from, leb-false, lt-leb, eqb-false, ne_eqb, ltb-false, le-ltb}
 use Rattle.base.specs.declared.Place.{Place}
 use Rattle.lexer.specs.Words.{Word, same, among}
@@ -297,10 +298,6 @@ keep_declares false true c e f g = absurd (false≢true (sym f))
 keep_declares false false true e f g = absurd (false≢true (sym g))
 keep_declares false false false e f g = refl
 
-or_nothing : (b : Bool) → (b || false) ≡ b
-or_nothing true = refl
-or_nothing false = refl
-
 sized : (c : ℕ) → (eqb c 0 || ltb 65536 c) ≡ false → (0 < c) × (c ≤ 65536)
 sized c h =
     let k = or_parts (eqb c 0) (ltb 65536 c) h in
@@ -329,14 +326,14 @@ k_heads (var_decl {n = n} {p = p} {q = q} {e = e} {s = s} {ds = ds} range rest) 
       so = (y.so.0, (y.so.1.0 ∙ append_assoc vs (n ∷ []) (var_names (variables ds)), y.so.1.1, y.so.1.2));
       there = λ k.
           let d = declares (among n V) (among n W) (full || false) k.1.0 in
-          let room = leb-false 8 (length V) (sym (or_nothing full) ∙ d.2) in
+          let room = leb-false 8 (length V) (sym (or-false full) ∙ d.2) in
           let h = x.there k.1.1.1 in
           let i = y.there h.1.1 in
           ((sym (ap (among n) v) ∙ d.0, sym (ap (among n) w) ∙ d.1, omega arith, h.0, i.0), i.1);
       back = λ h k. let room = h.2 in (
         refl,
         (
-          keep_declares (among n V) (among n W) (full || false) (ap (among n) v ∙ h.0) (ap (among n) w ∙ h.1) (or_nothing full ∙ lt-leb 8 (length V) (omega arith)),
+          keep_declares (among n V) (among n W) (full || false) (ap (among n) v ∙ h.0) (ap (among n) w ∙ h.1) (or-false full ∙ lt-leb 8 (length V) (omega arith)),
           (refl, x.back h.3 (refl, y.back h.4 k)),
         ),
       );

@@ -2,6 +2,9 @@ pub mod Machine
 pub mod Unique
 pub mod Sizes
 pub mod Drawings
+pub mod Names
+pub mod Joins
+pub mod WellFormed
 pub mod Keeping
 pub mod Verdicts
 pub mod Passing

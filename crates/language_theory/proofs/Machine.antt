@@ -335,9 +335,6 @@ f_heads (table_decl s h) b k = f_span s (one Semicolon ∷ heads ∷ k) ∙ f_he
 pub script_accepted : {ws : List Word} {t : Tree} → Script ws t → accepted (steps (Some at_first) ws) ≡ true
 script_accepted (script h b) = f_heads h b (body ∷ []) ∙ f_body b ended []
 
-steps_none : (ws : List Word) → steps None ws ≡ None
-steps_none ws = refl
-
 pub steps_append : (o : Option (List Expect)) (ws more : List Word) → steps o (ws ++ more) ≡ steps (steps o ws) more
 steps_append None ws more = refl
 steps_append (Some k) [] more = refl

@@ -7,7 +7,8 @@ use Rattle.language_theory.specs.Laws.{GrammarStands, VerdictsStand, GraphsStand
 use Rattle.language_theory.proofs.Machine.{steps_begins, complete_script, begins_steps, script_accepted}
 use Rattle.language_theory.proofs.Unique.{one_tree}
 use Rattle.language_theory.proofs.Verdicts.{Says, says, some_verdict, one_verdict, passes_all, keeps_passes, drawn_well}
-use Rattle.language_theory.proofs.Drawings.{graph_made, well_formed}
+use Rattle.language_theory.proofs.Drawings.{graph_made}
+use Rattle.language_theory.proofs.WellFormed.{well_formed}
 
 accepted_script : (ws : List Word) → accepted (steps (Some at_first) ws) ≡ true → (t : Tree) × Script ws t
 accepted_script ws h = go (steps (Some at_first) ws) refl h

@@ -58,9 +58,6 @@ skipped e k past t o f =
     same_step (e ∷ k) k past t (ap (λ (b : Bool). b && complete k) o)
     (λ w t₂ q. ap (λ (x : Option (List Expect)). pick x (optional e) k (step k w)) (f w t₂ q) ∙ ap (λ (b : Bool). pick None b k (step k w)) o)
 
-abbrev Or : Bool → List Expect → Option (List Expect) → Option (List Expect)
-Or b more o = cond b (Some more) o
-
 none_of : (b : Bool) (more : List Expect) (o : Option (List Expect)) → b ≡ false → o ≡ None → cond b (Some more) o ≡ None
 none_of true more o e f = absurd (false≢true (sym e))
 none_of false more o e f = f
@@ -189,9 +186,6 @@ unnamed m n p past e = ap (λ (b : Bool). names_behind m past ++ cond b (n ∷ [
 
 pub alike_name : (n : List ℕ) (p : Place) (past : List Word) → follows Var past ≡ false → follows Table past ≡ false → Alike (name n p ∷ past) past
 alike_name n p past e f = record { vars = unnamed Var n p past e; tabs = unnamed Table n p past f; lev = refl }
-
-pub alike_same : (past : List Word) → Alike past past
-alike_same past = record { vars = refl; tabs = refl; lev = refl }
 
 pub alike_then : (a b c : List Word) → Alike a b → Alike b c → Alike a c
 alike_then a b c x y = record { vars = x.vars ∙ y.vars; tabs = x.tabs ∙ y.tabs; lev = x.lev ∙ y.lev }

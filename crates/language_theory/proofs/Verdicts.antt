@@ -1,5 +1,5 @@
 -- Each text has exactly one verdict, and it is computed.
-use Rattle.std.proofs.Common.{◌≡◌, ℕ, zero, suc, ◌+◌, ◌<◌, ◌≤◌, Bool, true, false, cond, ◌⊎◌, List, [], ◌∷◌, ◌++◌, length, Some, None, Option, sym, refl, ap, ◌∙◌, subst, inl, inr, append-nil, arith, length-append}
+use Rattle.std.proofs.Common.{◌≡◌, ℕ, zero, suc, ◌<◌, ◌≤◌, Bool, true, false, cond, ◌⊎◌, List, [], ◌∷◌, ◌++◌, length, Some, None, Option, sym, refl, ap, ◌∙◌, subst, inl, inr, append-nil, arith}
 use Rattle.std.proofs.lemmas.Bool.{false≢true, cases_lt}
 use Rattle.lexer.specs.Words.{Word, Text, place, text}
 use Rattle.lexer.specs.Words.Text.{ends, fails, reads}
@@ -16,17 +16,12 @@ use Rattle.language_theory.proofs.Machine.{steps_begins, complete_script, begins
 use Rattle.lexer.proofs.Told.{no_some}
 use Rattle.language_theory.proofs.Unique.{one_tree}
 use Rattle.language_theory.proofs.Keeping.{Kept, kept_keeps, keeps_kept}
-use Rattle.language_theory.specs.Rules.{HeadsKeep, SideKeeps, OperandKeeps, ConditionKeeps, BodyKeeps, Keeps, whole, words}
-use Rattle.language_theory.specs.Grammar.{Declaration, Side, Operand, Condition, Statements}
-use Rattle.language_theory.specs.Grammar.Declaration.{variable, table}
-use Rattle.language_theory.specs.Grammar.Side.{constant, shifted, negated, any, reading}
-use Rattle.language_theory.specs.Grammar.Operand.{against, limit}
-use Rattle.language_theory.specs.Grammar.Condition.{compares}
-use Rattle.language_theory.specs.Grammar.Statements.{done, assign, choose, repeat}
-use Rattle.language_theory.specs.Graphs.{Graph, variables, tables, var_names, table_names, NamedOperand, NamedCondition, NamedSide, Named, WellFormed, SmallTree}
+use Rattle.language_theory.specs.Rules.{Keeps, whole, words}
+use Rattle.language_theory.specs.Graphs.{Graph, graph, maker, SmallTree}
+use Rattle.language_theory.specs.WellFormed.{Made, WellFormed}
 use Rattle.language_theory.proofs.Sizes.{reads_small, script_small}
-use Rattle.language_theory.proofs.Drawings.{graph_made, maker_some, well_formed}
-use Rattle.language_theory.specs.Graphs.{graph, maker}
+use Rattle.language_theory.proofs.Drawings.{graph_made, maker_some}
+use Rattle.language_theory.proofs.WellFormed.{well_formed}
 
 -- what the computed refusal says of a text
 abbrev pub Says : List Word → Text → Option Refusal → Type 0
@@ -186,50 +181,13 @@ pub keeps_passes : (ws : List Word) (p : Place) (tree : Tree) → Script ws tree
 keeps_passes ws p tree s k = kept_passes ws p tree [] s (keeps_kept s k)
 
 -- what is drawn is well formed
-named_operand : (vs : List (List ℕ)) (i : List ℕ) (v : Operand) → OperandKeeps vs i v → NamedOperand vs v
-named_operand vs i (against k) h = h.0
-named_operand vs i (limit c) h = tt
-
-named_condition : (vs : List (List ℕ)) (c : Condition) → ConditionKeeps vs c → NamedCondition vs c
-named_condition vs (compares i o v) h = (h.0, named_operand vs i v h.1)
-
-named_side : (vs ts : List (List ℕ)) (e : Side) → SideKeeps vs ts e → NamedSide vs ts e
-named_side vs ts (constant c) h = tt
-named_side vs ts (shifted i c) h = h
-named_side vs ts (negated i) h = h
-named_side vs ts (any s g) h = tt
-named_side vs ts (reading t i p) h = h
-
-named_body : (vs ts : List (List ℕ)) (l : ℕ) (b : Statements) → BodyKeeps vs ts l b → Named vs ts b
-named_body vs ts l done h = tt
-named_body vs ts l (assign p k e rest) h = (h.0, named_side vs ts e h.1, named_body vs ts l rest h.2)
-named_body vs ts l (choose p c b b₂ rest) h = (named_condition vs c h.0, named_body vs ts (suc l) b h.2, named_body vs ts (suc l) b₂ h.3, named_body vs ts l rest h.4)
-named_body vs ts l (repeat p c b rest) h = (named_condition vs c h.0, named_body vs ts (suc l) b h.2, named_body vs ts l rest h.3)
-
-few : (vs ts : List (List ℕ)) (ds : List Declaration) → HeadsKeep vs ts ds → length vs ≤ 8 → length ts ≤ 8 →
-    (length vs + length (variables ds) ≤ 8) × (length ts + length (tables ds) ≤ 8)
-few vs ts [] h a b = (omega arith, omega arith)
-few vs ts (variable n g ∷ ds) h a b =
-    let e = length-append vs (n ∷ []) in
-    let k = h.2 in
-    let r = few (vs ++ (n ∷ [])) ts ds h.4 (omega arith) b in (omega arith, r.1)
-few vs ts (table n c g ∷ ds) h a b =
-    let e = length-append ts (n ∷ []) in
-    let k = h.2 in
-    let r = few vs (ts ++ (n ∷ [])) ds h.6 a (omega arith) in (r.0, omega arith)
-
 is_drawn : {bs : List ℕ} {o : Outcome} → Verdict bs o → (g : Graph) → o ≡ drawn g → (tree : Tree) × (graph tree ≡ g) × Keeps tree × ((graph tree).points ≤ 96) × SmallTree tree
 is_drawn (too_long h) g e = let z : ◌≡◌ {A = ℕ} 0 1 = cc in absurd (omega arith)
 is_drawn (by_rule l r f) g e = let z : ◌≡◌ {A = ℕ} 0 1 = cc in absurd (omega arith)
 is_drawn (too_many l r f k m) g e = let z : ◌≡◌ {A = ℕ} 0 1 = cc in absurd (omega arith)
 is_drawn (fine {tree = tree} l r f k) g e = (tree, cc, passes_keeps f, k, script_small (passes_script f) (reads_small r))
 
-pub drawn_well : (bs : List ℕ) (g : Graph) → Verdict bs (drawn g) → WellFormed g × (g.points ≤ 96) × (length g.variables ≤ 8) × (length g.tables ≤ 8)
+pub drawn_well : (bs : List ℕ) (g : Graph) → Verdict bs (drawn g) → Made g.edges g.points × WellFormed g
 drawn_well bs g v =
     let d = is_drawn v g refl in
-    let t = d.0 in
-    let k = d.2 in
-    let ds = t.declarations in
-    let w = well_formed t (named_body (var_names (variables ds)) (table_names (tables ds)) 0 t.statements k.body) d.4 in
-    let n = few [] [] ds k.heads (omega arith) (omega arith) in
-    subst (λ (z : Graph). WellFormed z × (z.points ≤ 96) × (length z.variables ≤ 8) × (length z.tables ≤ 8)) d.1 (w, d.3, omega arith, omega arith)
+    subst (λ (z : Graph). Made z.edges z.points × WellFormed z) d.1 (graph_made d.0, well_formed d.0 d.2 d.4 d.3)

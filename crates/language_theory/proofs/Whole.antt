@@ -14,8 +14,9 @@ use Rattle.language_theory.specs.Grammar.Statements.{done}
 use Rattle.language_theory.specs.Grammar.Heads.{no_decl}
 use Rattle.language_theory.specs.Grammar.Body.{no_stmt}
 use Rattle.language_theory.specs.Grammar.Script.{script}
-use Rattle.language_theory.specs.Graphs.{Variable, Table as ATable, Drawing, Graph, draw, blank_sheet, finished, graph, maker, Made}
-use Rattle.language_theory.specs.Graphs.Made.{none, next, again}
+use Rattle.language_theory.specs.Graphs.{Variable, Table as ATable, Drawing, Graph, draw, blank_sheet, finished, graph, maker}
+use Rattle.language_theory.specs.WellFormed.{Made}
+use Rattle.language_theory.specs.WellFormed.Made.{none, next, again}
 use Rattle.language_theory.specs.declared.Edge.{Edge}
 use Rattle.language_theory.proofs.Drawings.{graph_made, maker_some}
 use Rattle.language_theory.specs.Names.{Passes, Verdict}

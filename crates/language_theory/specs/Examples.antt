@@ -6,7 +6,9 @@ use Rattle.language_theory.specs.Names.Outcome.{refused, drawn}
 use Rattle.base.specs.declared.Place.{Place}
 use Rattle.language_theory.specs.declared.Range.{Range}
 use Rattle.language_theory.specs.declared.Action.{Action}
-use Rattle.language_theory.specs.declared.Action.TheVariants.{Skip, Any, Read, Shift, Negate, AtMost, AtLeast, Before}
+use Rattle.language_theory.specs.declared.Action.TheVariants.{Skip, Assign, Assume}
+use Rattle.language_theory.specs.declared.Guard.TheVariants.{AtMost, AtLeast, Difference}
+use Rattle.language_theory.specs.declared.Value.TheVariants.{AnyOf, TableEntry, Sum, Negation}
 use Rattle.language_theory.specs.declared.Source.TheVariants.{Sensed}
 use Rattle.language_theory.specs.declared.Edge.{Edge}
 
@@ -30,10 +32,10 @@ counting_graph = record {
   points = 5;
   edges =
       edge 0 1 Skip (at 1 15) ∷
-      edge 1 2 (AtMost 0 (pos 9)) (at 1 15) ∷
-      edge 2 3 (Shift 0 0 (pos 1)) (at 1 30) ∷
+      edge 1 2 (Assume (AtMost 0 (pos 9))) (at 1 15) ∷
+      edge 2 3 (Assign 0 (Sum 0 (pos 1))) (at 1 30) ∷
       edge 3 1 Skip (at 1 15) ∷
-      edge 1 4 (AtLeast 0 (pos 10)) (at 1 15) ∷ [];
+      edge 1 4 (Assume (AtLeast 0 (pos 10))) (at 1 15) ∷ [];
   lookups = [];
 }
 
@@ -46,9 +48,9 @@ looking_up_graph = record {
   tables = record { name = codes "cal"; size = 4; range = range 0 4 } ∷ [];
   points = 4;
   edges =
-      edge 0 1 (AtLeast 0 (pos 0)) (at 3 1) ∷
-      edge 1 2 (AtMost 0 (pos 3)) (at 3 1) ∷
-      edge 2 3 (Read 0 0 (range 0 4)) (at 3 1) ∷ [];
+      edge 0 1 (Assume (AtLeast 0 (pos 0))) (at 3 1) ∷
+      edge 1 2 (Assume (AtMost 0 (pos 3))) (at 3 1) ∷
+      edge 2 3 (Assign 0 (TableEntry 0 (range 0 4))) (at 3 1) ∷ [];
   lookups = record { point = 0; index = 0; table = 0; place = at 3 10 } ∷ [];
 }
 
@@ -62,13 +64,13 @@ choosing_graph = record {
   tables = [];
   points = 7;
   edges =
-      edge 0 1 (Before 1 0 (pos 0)) (at 3 1) ∷
-      edge 1 2 (Any 0 (range 0 5) Sensed) (at 3 13) ∷
-      edge 0 3 (Before 0 1 (negsuc 0)) (at 3 1) ∷
-      edge 3 4 (Negate 0 1) (at 3 39) ∷
+      edge 0 1 (Assume (Difference 1 0 (pos 0))) (at 3 1) ∷
+      edge 1 2 (Assign 0 (AnyOf (range 0 5) Sensed)) (at 3 13) ∷
+      edge 0 3 (Assume (Difference 0 1 (negsuc 0))) (at 3 1) ∷
+      edge 3 4 (Assign 0 (Negation 1)) (at 3 39) ∷
       edge 2 5 Skip (at 3 1) ∷
       edge 4 5 Skip (at 3 1) ∷
-      edge 5 6 (Shift 0 0 (negsuc 1)) (at 4 1) ∷ [];
+      edge 5 6 (Assign 0 (Sum 0 (negsuc 1))) (at 4 1) ∷ [];
   lookups = [];
 }
 

@@ -1,5 +1,5 @@
 -- The graph of a script: points, numbered as made, and edges, in the order made.
-use Rattle.std.specs.Prelude.{◌≡◌, ℕ, suc, ◌<◌, ◌≤◌, true, cond, List, [], ◌∷◌, ◌++◌, length, ℤ, pos, negsuc, ◌+ℤ◌, ◌-ℤ◌, Some, None, Option, ◌==◌, slice_index_or}
+use Rattle.std.specs.Prelude.{◌≡◌, ℕ, suc, ◌≤◌, true, cond, List, [], ◌∷◌, ◌++◌, filter, ℤ, pos, negsuc, ◌+ℤ◌, ◌-ℤ◌, Some, None, Option, ◌==◌, slice_index_or}
 use Rattle.lexer.specs.Words.{among, same}
 use Rattle.language_theory.specs.Grammar.{Declaration, Side, Order, Operand, Condition, Statements, Tree}
 use Rattle.language_theory.specs.Grammar.Declaration.{variable, table}
@@ -12,7 +12,10 @@ use Rattle.base.specs.declared.Place.{Place}
 use Rattle.language_theory.specs.declared.Range.{Range}
 use Rattle.language_theory.specs.declared.Source.TheVariants.{Written}
 use Rattle.language_theory.specs.declared.Action.{Action}
-use Rattle.language_theory.specs.declared.Action.TheVariants.{Skip, Any, Read, Shift, Negate, AtMost, AtLeast, Before}
+use Rattle.language_theory.specs.declared.Action.TheVariants.{Skip, Assign, Assume}
+use Rattle.language_theory.specs.declared.Guard.{Guard}
+use Rattle.language_theory.specs.declared.Guard.TheVariants.{AtMost, AtLeast, Difference}
+use Rattle.language_theory.specs.declared.Value.TheVariants.{AnyOf, TableEntry, Sum, Negation}
 use Rattle.language_theory.specs.declared.Edge.{Edge}
 use Rattle.language_theory.specs.declared.Lookup.{Lookup}
 
@@ -92,15 +95,15 @@ abbrev pub note : Lookup → Drawing → Drawing
 note l d = record { points = d.points; now = d.now; edges = d.edges; lookups = d.lookups ++ (l ∷ []) }
 
 -- Guards. A strict guard against a constant moves it by one; i ≥ k is k ≤ i, and i > k is k < i.
-abbrev pub guard : ℕ → Order → Operand → (List ℕ → ℕ) → Action
+abbrev pub guard : ℕ → Order → Operand → (List ℕ → ℕ) → Guard
 guard i below (limit c) num = AtMost i (c -ℤ pos 1)
 guard i at_most (limit c) num = AtMost i c
 guard i above (limit c) num = AtLeast i (c +ℤ pos 1)
 guard i at_least (limit c) num = AtLeast i c
-guard i below (against k) num = Before i (num k) (negsuc 0)
-guard i at_most (against k) num = Before i (num k) (pos 0)
-guard i above (against k) num = Before (num k) i (negsuc 0)
-guard i at_least (against k) num = Before (num k) i (pos 0)
+guard i below (against k) num = Difference i (num k) (negsuc 0)
+guard i at_most (against k) num = Difference i (num k) (pos 0)
+guard i above (against k) num = Difference (num k) i (negsuc 0)
+guard i at_least (against k) num = Difference (num k) i (pos 0)
 
 abbrev pub opposite : Order → Order
 opposite below = at_least
@@ -109,10 +112,10 @@ opposite above = at_most
 opposite at_least = below
 
 abbrev pub holds : (List ℕ → ℕ) → Condition → Action
-holds num (compares i o v) = guard (num i) o v num
+holds num (compares i o v) = Assume (guard (num i) o v num)
 
 abbrev pub fails : (List ℕ → ℕ) → Condition → Action
-fails num (compares i o v) = guard (num i) (opposite o) v num
+fails num (compares i o v) = Assume (guard (num i) (opposite o) v num)
 
 module _ (vs : List Variable) (ts : List Table) where
   -- the numbers of a variable and of a table
@@ -128,16 +131,16 @@ module _ (vs : List Variable) (ts : List Table) where
   -- a table read k := t[i]: i ≥ 0, i ≤ size−1, then k := any of t's range
   abbrev pub draw_read : Place → ℕ → List ℕ → List ℕ → Place → Drawing → Drawing
   draw_read p k t i q d =
-      fresh (Read k (var_number i) (table_at t).range) p
-      (fresh (AtMost (var_number i) (pos (table_at t).size -ℤ pos 1)) p
-      (fresh (AtLeast (var_number i) (pos 0)) p
+      fresh (Assign k (TableEntry (var_number i) (table_at t).range)) p
+      (fresh (Assume (AtMost (var_number i) (pos (table_at t).size -ℤ pos 1))) p
+      (fresh (Assume (AtLeast (var_number i) (pos 0))) p
       (note (record { point = d.now; index = var_number i; table = table_number t; place = q }) d)))
 
   abbrev pub draw_assign : Place → ℕ → Side → Drawing → Drawing
-  draw_assign p k (constant c) d = fresh (Any k (only c) Written) p d
-  draw_assign p k (shifted i c) d = fresh (Shift k (var_number i) c) p d
-  draw_assign p k (negated i) d = fresh (Negate k (var_number i)) p d
-  draw_assign p k (any s g) d = fresh (Any k g s) p d
+  draw_assign p k (constant c) d = fresh (Assign k (AnyOf (only c) Written)) p d
+  draw_assign p k (shifted i c) d = fresh (Assign k (Sum (var_number i) c)) p d
+  draw_assign p k (negated i) d = fresh (Assign k (Negation (var_number i))) p d
+  draw_assign p k (any s g) d = fresh (Assign k (AnyOf g s)) p d
   draw_assign p k (reading t i q) d = draw_read p k t i q d
 
   -- if: a guard to a fresh point and the first block; the negated guard to a fresh point and the second block;
@@ -174,18 +177,22 @@ graph t =
     let ts = tables t.declarations in
     finished vs ts (draw vs ts t.statements blank_sheet)
 
+-- a variable that is not there
+abbrev pub no_variable : Variable
+no_variable = record { name = []; range = only (pos 0) }
+
+-- the declared range of a variable
+abbrev pub range : Graph → ℕ → Range
+range g v = (slice_index_or g.variables v no_variable).range
+
+-- the edges to a point, in the order made
+abbrev pub incoming : ℕ → List Edge → List Edge
+incoming p es = filter (λ e. e.target == p) es
+
 -- the place of the statement that made a point: that of the first edge to it
 abbrev pub maker : ℕ → List Edge → Option Place
 maker q [] = None
 maker q (e ∷ es) = cond (e.target == q) (Some e.place) (maker q es)
-
--- Well-formed graphs.
--- These edges, in this order, make points up to this count: each edge leads from a point made before,
--- to the next number, or again to a point made before.
-pub data Made : List Edge → ℕ → Type 0 where
-  none : Made [] 1
-  next : {es : List Edge} {n : ℕ} (e : Edge) → Made es n → e.source < n → e.target ≡ n → Made (es ++ (e ∷ [])) (suc n)
-  again : {es : List Edge} {n : ℕ} (e : Edge) → Made es n → e.source < n → 0 < e.target → e.target < n → Made (es ++ (e ∷ [])) n
 
 abbrev pub Each : {A : Type 0} → (A → Type 0) → List A → Type 0
 Each P [] = Unit {0}
@@ -199,47 +206,9 @@ size (negsuc n) = suc n
 abbrev pub Within : ℕ → Range → Type 0
 Within m g = (size g.low ≤ m) × (size g.high ≤ m)
 
--- the variables that an action names are below V, and its constants are at most 2^31 in size
-abbrev pub Below : ℕ → Action → Type 0
-Below V Skip = Unit {0}
-Below V (Any k g s) = (k < V) × Within 2147483648 g
-Below V (Read k i g) = (k < V) × (i < V) × Within 2147483648 g
-Below V (Shift k i c) = (k < V) × (i < V) × (size c ≤ 2147483648)
-Below V (Negate k i) = (k < V) × (i < V)
-Below V (AtMost i c) = (i < V) × (size c ≤ 2147483648)
-Below V (AtLeast i c) = (i < V) × (size c ≤ 2147483648)
-Below V (Before i k c) = (i < V) × (k < V) × (size c ≤ 2147483648)
-
-pub record WellFormed (g : Graph) : Type 0 where
-  pub made : Made g.edges g.points
-  pub actions : Each (λ (e : Edge). Below (length g.variables) e.action) g.edges
-  pub reads : Each (λ (l : Lookup). (l.point < g.points) × (l.index < length g.variables) × (l.table < length g.tables)) g.lookups
-  pub variables : Each (λ (v : Variable). Within 2147483648 v.range) g.variables
-  pub tables : Each (λ (t : Table). Within 2147483648 t.range) g.tables
-
--- every name that the statements use is one of the names declared for it
+-- every name that is used is one of these
 abbrev pub Among : List ℕ → List (List ℕ) → Type 0
 Among n ms = among n ms ≡ true
-
-abbrev pub NamedOperand : List (List ℕ) → Operand → Type 0
-NamedOperand vs (against k) = Among k vs
-NamedOperand vs (limit c) = Unit {0}
-
-abbrev pub NamedCondition : List (List ℕ) → Condition → Type 0
-NamedCondition vs (compares i o v) = Among i vs × NamedOperand vs v
-
-abbrev pub NamedSide : List (List ℕ) → List (List ℕ) → Side → Type 0
-NamedSide vs ts (constant c) = Unit {0}
-NamedSide vs ts (shifted i c) = Among i vs
-NamedSide vs ts (negated i) = Among i vs
-NamedSide vs ts (any s g) = Unit {0}
-NamedSide vs ts (reading t i p) = Among t ts × Among i vs
-
-abbrev pub Named : List (List ℕ) → List (List ℕ) → Statements → Type 0
-Named vs ts done = Unit {0}
-Named vs ts (assign p k e rest) = Among k vs × NamedSide vs ts e × Named vs ts rest
-Named vs ts (choose p c b b₂ rest) = NamedCondition vs c × Named vs ts b × Named vs ts b₂ × Named vs ts rest
-Named vs ts (repeat p c b rest) = NamedCondition vs c × Named vs ts b × Named vs ts rest
 
 -- every constant that is written is at most 2147483647 in size
 abbrev pub SmallOperand : Operand → Type 0
@@ -266,9 +235,6 @@ abbrev pub SmallHeads : List Declaration → Type 0
 SmallHeads [] = Unit {0}
 SmallHeads (variable n g ∷ ds) = Within 2147483647 g × SmallHeads ds
 SmallHeads (table n c g ∷ ds) = (c ≤ 2147483647) × Within 2147483647 g × SmallHeads ds
-
-abbrev pub Declared : Tree → Type 0
-Declared t = Named (var_names (variables t.declarations)) (table_names (tables t.declarations)) t.statements
 
 abbrev pub SmallTree : Tree → Type 0
 SmallTree t = SmallHeads t.declarations × Small t.statements

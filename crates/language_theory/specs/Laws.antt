@@ -1,8 +1,9 @@
 -- What is proved of the definitions, as statements for the contracts.
-use Rattle.std.specs.Prelude.{◌≡◌, ℕ, ◌≤◌, true, List, [], length, Some, None}
+use Rattle.std.specs.Prelude.{◌≡◌, ℕ, ◌≤◌, true, List, [], Some, None}
 use Rattle.lexer.specs.Words.{Word, Text}
 use Rattle.language_theory.specs.Grammar.{Tree, Script, Begins}
-use Rattle.language_theory.specs.Graphs.{Graph, graph, Made, Declared, SmallTree, WellFormed}
+use Rattle.language_theory.specs.Graphs.{Graph, graph, SmallTree}
+use Rattle.language_theory.specs.WellFormed.{Made, WellFormed}
 use Rattle.language_theory.specs.Names.{Refused, Passes, Outcome, Verdict}
 use Rattle.language_theory.specs.Names.Outcome.{drawn}
 use Rattle.language_theory.specs.Rules.{Keeps, whole}
@@ -27,10 +28,10 @@ pub record VerdictsStand : Type 0 where
   pub keeps : (t : Text) (tree : Tree) → Passes [] t tree → (ws : List Word) × (p : Place) × (t ≡ whole ws p) × Script ws tree × Keeps tree
   pub kept : (ws : List Word) (p : Place) (tree : Tree) → Script ws tree → Keeps tree → Passes [] (whole ws p) tree
 
--- Points are numbered as made; where names are declared and constants small, as in every text that passes, graphs are
--- well formed.
+-- Points are numbered as made; where a tree keeps the rules, its constants are small and it needs no point 96, as in every
+-- text that is accepted, its graph is well formed.
 pub record GraphsStand : Type 0 where
   pub made : (t : Tree) → Made (graph t).edges (graph t).points
-  pub well_formed : (t : Tree) → Declared t → SmallTree t → WellFormed (graph t)
+  pub well_formed : (t : Tree) → Keeps t → SmallTree t → (graph t).points ≤ 96 → WellFormed (graph t)
   -- what is drawn of a text
-  pub drawn : (bs : List ℕ) (g : Graph) → Verdict bs (drawn g) → WellFormed g × (g.points ≤ 96) × (length g.variables ≤ 8) × (length g.tables ≤ 8)
+  pub drawn : (bs : List ℕ) (g : Graph) → Verdict bs (drawn g) → Made g.edges g.points × WellFormed g

@@ -1,5 +1,6 @@
 pub mod Grammar
 pub mod Graphs
+pub mod WellFormed
 pub mod Names
 pub mod Rules
 pub mod Expected

@@ -1,10 +1,12 @@
 -- Names looked up in lists.
-use Rattle.std.proofs.Common.{subst, nat_lt, ◌≡◌, ℕ, suc, ◌+◌, Bool, true, false, ◌||◌, leb, List, [], ◌∷◌, ◌++◌, map, length, is_some, Some, None, vec_items, Option, sym, refl, ap, ◌∙◌, arith}
+use Rattle.std.proofs.Common.{subst, nat_lt, ◌≡◌, ℕ, suc, ◌+◌, ◌<◌, Bool, true, false, ◌||◌, leb, List, [], ◌∷◌, ◌++◌, map, length, is_some, Some, None, vec_items, vec_len, Option, sym, refl, ap, ◌∙◌, arith}
 use Rattle.std.proofs.lemmas.Bool.Decides.{nat_tests}
 use Rattle.std.proofs.lemmas.List.{map-append, length-map}
+use Rattle.std.specs.Global.{Vec}
 use Rattle.std.specs.List.{position, position_or_len}
 use Rattle.lexer.specs.Words.{same, among}
 use Rattle.language_theory.specs.Graphs.{var_names, table_names, number_of}
+use Rattle.language_theory.proofs.Names.{number_below, length_tables}
 use Rattle.parser.specs.Models.{LooksUp, variable_of, table_of}
 use Rattle.parser.specs.declared.Variable.{Variable}
 use Rattle.parser.specs.declared.Table.{Table}
@@ -52,6 +54,14 @@ names_of_vars xs vs e = ap (map (λ (v : Variable). vec_items v.name)) e ∙ sym
 
 pub names_of_tables : (xs ts : List Table) → xs ≡ ts → map (λ (t : Table). vec_items t.name) xs ≡ table_names (map table_of ts)
 names_of_tables xs ts e = ap (map (λ (t : Table). vec_items t.name)) e ∙ sym (table_names_map ts)
+
+-- a table that is found is there
+pub table_there : (ts : Vec Table) (n : List ℕ) (i : ℕ) → (among n (table_names (map table_of (vec_items ts))) ≡ true) × (i ≡ number_of n (table_names (map table_of (vec_items ts)))) → i < vec_len ts
+table_there ts n i h =
+    let b = number_below n (table_names (map table_of (vec_items ts))) h.0 in
+    let a = length_tables (map table_of (vec_items ts)) in
+    let l = length_of table_of (vec_items ts) in
+    let k = ts.ok.0 in omega arith
 
 pub is_there : (n : List ℕ) (ns ms : List (List ℕ)) → ns ≡ ms → (o : Option ℕ) → LooksUp n ns o → is_some o ≡ among n ms
 is_there n ns ms e None h = sym (ap (among n) (sym e) ∙ h)

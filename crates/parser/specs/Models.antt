@@ -1,5 +1,5 @@
 -- What the reader holds, by its meaning.
-use Rattle.std.specs.Prelude.{◌≡◌, true, false, Option, MatchOption, Result, MatchResult, ℕ, List, map, ℤ, pos, negsuc, ◌+ℤ◌, ◌-ℤ◌, ◌≤ℤ◌, vec_items, slice_index_or}
+use Rattle.std.specs.Prelude.{◌≡◌, true, false, Option, MatchOption, Result, MatchResult, ℕ, List, map, ℤ, pos, negsuc, ◌+ℤ◌, ◌-ℤ◌, ◌≤ℤ◌, vec_items}
 use Rattle.base.specs.declared.Place.{Place}
 use Rattle.base.specs.declared.Refusal.{Refusal}
 use Rattle.base.specs.declared.Reason.TheVariants.{Undeclared}
@@ -8,9 +8,11 @@ use Rattle.lexer.specs.Words.{Text, among}
 use Rattle.lexer.specs.Reader.{as_next, ahead, leads}
 use Rattle.language_theory.specs.Grammar as grammar
 use Rattle.language_theory.specs.Graphs as graphs
-use Rattle.language_theory.specs.Graphs.{var_number, table_number, fresh, note, only, no_table}
-use Rattle.language_theory.specs.declared.Action.{Action}
-use Rattle.language_theory.specs.declared.Action.TheVariants.{Any as AnyOf, Read, Shift, Negate, AtMost as AtMostGuard, AtLeast as AtLeastGuard, Before}
+use Rattle.language_theory.specs.Graphs.{var_number, table_number, table_at, fresh, note, only}
+use Rattle.language_theory.specs.declared.Action.TheVariants.{Assign, Assume}
+use Rattle.language_theory.specs.declared.Guard.{Guard}
+use Rattle.language_theory.specs.declared.Guard.TheVariants as guard
+use Rattle.language_theory.specs.declared.Value.TheVariants.{AnyOf, TableEntry, Sum, Negation}
 use Rattle.language_theory.specs.declared.Source.TheVariants.{Written}
 use Rattle.parser.specs.declared.Variable.{Variable}
 use Rattle.parser.specs.declared.Table.{Table}
@@ -18,7 +20,7 @@ use Rattle.parser.specs.declared.sentence.Sentence.{Sentence}
 use Rattle.parser.specs.declared.names.Names.{Names}
 use Rattle.parser.specs.declared.drawing.Drawing.{Drawing}
 use Rattle.parser.specs.declared.side.Side.{Side}
-use Rattle.parser.specs.declared.side.Side.TheVariants.{Constant, Shifted, Negated, Any, Entry}
+use Rattle.parser.specs.declared.side.Side.TheVariants.{Value, Entry}
 use Rattle.parser.specs.declared.condition.Order.{Order}
 use Rattle.parser.specs.declared.condition.Order.TheVariants.{Below, AtMost, Above, AtLeast}
 use Rattle.parser.specs.declared.condition.Operand.{Operand}
@@ -65,13 +67,23 @@ order_of grammar.Order.at_most = AtMost
 order_of grammar.Order.above = Above
 order_of grammar.Order.at_least = AtLeast
 
+-- a constant, a written range of one number
+abbrev pub fixed : ℤ → Side
+fixed c = Value (AnyOf (only c) Written)
+
 module _ (vs : List graphs.Variable) (ts : List graphs.Table) where
   abbrev pub side_of : grammar.Side → Side
-  side_of (grammar.Side.constant c) = Constant c
-  side_of (grammar.Side.shifted i c) = Shifted (var_number vs ts i) c
-  side_of (grammar.Side.negated i) = Negated (var_number vs ts i)
-  side_of (grammar.Side.any s g) = Any s g
-  side_of (grammar.Side.reading t i p) = Entry (record { table = table_number vs ts t; index = var_number vs ts i; place = p })
+  side_of (grammar.Side.constant c) = fixed c
+  side_of (grammar.Side.shifted i c) = Value (Sum (var_number vs ts i) c)
+  side_of (grammar.Side.negated i) = Value (Negation (var_number vs ts i))
+  side_of (grammar.Side.any s g) = Value (AnyOf g s)
+  side_of (grammar.Side.reading t i p) = Entry (record {
+    table = table_number vs ts t;
+    size = (table_at vs ts t).size;
+    range = (table_at vs ts t).range;
+    index = var_number vs ts i;
+    place = p;
+  })
 
   abbrev pub operand_of : grammar.Operand → Operand
   operand_of (grammar.Operand.against k) = Against (var_number vs ts k)
@@ -80,28 +92,25 @@ module _ (vs : List graphs.Variable) (ts : List graphs.Table) where
   abbrev pub condition_of : grammar.Condition → Condition
   condition_of (grammar.Condition.compares i o v) = record { left = var_number vs ts i; order = order_of o; right = operand_of v }
 
-  -- the edges of an assignment
-  abbrev pub assigned : Place → ℕ → Side → graphs.Drawing → graphs.Drawing
-  assigned p k (Constant c) d = fresh (AnyOf k (only c) Written) p d
-  assigned p k (Shifted i c) d = fresh (Shift k i c) p d
-  assigned p k (Negated i) d = fresh (Negate k i) p d
-  assigned p k (Any s g) d = fresh (AnyOf k g s) p d
-  assigned p k (Entry r) d =
-      fresh (Read k r.index (slice_index_or ts r.table no_table).range) p
-      (fresh (AtMostGuard r.index (pos (slice_index_or ts r.table no_table).size -ℤ pos 1)) p
-      (fresh (AtLeastGuard r.index (pos 0)) p
-      (note (record { point = d.now; index = r.index; table = r.table; place = r.place }) d)))
+-- the edges of an assignment
+abbrev pub assigned : Place → ℕ → Side → graphs.Drawing → graphs.Drawing
+assigned p k (Value x) d = fresh (Assign k x) p d
+assigned p k (Entry r) d =
+    fresh (Assign k (TableEntry r.index r.range)) p
+    (fresh (Assume (guard.AtMost r.index (pos r.size -ℤ pos 1))) p
+    (fresh (Assume (guard.AtLeast r.index (pos 0))) p
+    (note (record { point = d.now; index = r.index; table = r.table; place = r.place }) d)))
 
 -- The guard of a condition: a strict one against a constant moves it by one; i ≥ k is k ≤ i, and i > k is k < i.
-abbrev pub guard_of : ℕ → Order → Operand → Action
-guard_of i Below (Limit c) = AtMostGuard i (c -ℤ pos 1)
-guard_of i AtMost (Limit c) = AtMostGuard i c
-guard_of i Above (Limit c) = AtLeastGuard i (c +ℤ pos 1)
-guard_of i AtLeast (Limit c) = AtLeastGuard i c
-guard_of i Below (Against k) = Before i k (negsuc 0)
-guard_of i AtMost (Against k) = Before i k (pos 0)
-guard_of i Above (Against k) = Before k i (negsuc 0)
-guard_of i AtLeast (Against k) = Before k i (pos 0)
+abbrev pub guard_of : ℕ → Order → Operand → Guard
+guard_of i Below (Limit c) = guard.AtMost i (c -ℤ pos 1)
+guard_of i AtMost (Limit c) = guard.AtMost i c
+guard_of i Above (Limit c) = guard.AtLeast i (c +ℤ pos 1)
+guard_of i AtLeast (Limit c) = guard.AtLeast i c
+guard_of i Below (Against k) = guard.Difference i k (negsuc 0)
+guard_of i AtMost (Against k) = guard.Difference i k (pos 0)
+guard_of i Above (Against k) = guard.Difference k i (negsuc 0)
+guard_of i AtLeast (Against k) = guard.Difference k i (pos 0)
 
 abbrev pub SmallOperand : Operand → Type 0
 SmallOperand (Against k) = Unit {0}

@@ -1,6 +1,8 @@
 // Conditions, and the guards that they become.
 ghost use Rattle.std.specs.Prelude.{◌≡◌, [], ◌∷◌, MatchResult};
 ghost use Rattle.language_theory.specs.Grammar as grammar;
+ghost use Rattle.language_theory.specs.declared.Action.TheVariants.{Assume};
+ghost use Rattle.parser.specs.declared.condition.Operand.TheVariants.{Against, Limit};
 ghost use Rattle.language_theory.specs.Expected.Expect.{condition, operator, operand};
 ghost use Rattle.language_theory.specs.Readings.{Anywhere, TurnsBack, Over, KnowsAsks, is_operator, is_operand, is_condition};
 ghost use Rattle.parser.specs.Models.{left as left_of, order_of, guard_of, opposite_of, Small, SmallOperand};

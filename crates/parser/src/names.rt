@@ -1,5 +1,5 @@
 // The names that a script declares: variables and tables share one space of names.
-ghost use Rattle.std.specs.Prelude.{◌≡◌, ℕ, ◌||◌, List, [], map, slice_index_or};
+ghost use Rattle.std.specs.Prelude.{◌≡◌, ℕ, ◌<◌, ◌||◌, List, [], map, slice_index_or, vec_len};
 ghost use Rattle.lexer.specs.Words.{same, among};
 ghost use Rattle.language_theory.specs.Graphs.{var_names, table_names, no_table};
 ghost use Rattle.parser.specs.Models.{vars_of, tabs_of, LooksUp, Finds};
@@ -101,13 +101,12 @@ impl Names {
         find(self.tables.as_slice(), name, place)
     }
 
-    // The size and the range of a table; 0 and 0..0 where there is none, as in the definition of a drawing. Not an `Option`: whoever asks has found the table.
+    // The size and the range of a table.
     pub(crate) fn shape(&self, table: usize) -> (u32, Range)
+        requires { table < vec_len self.now.tables }
         ensures { (result.0 ≡ (slice_index_or (tabs_of self.now) table no_table).size) × (result.1 ≡ (slice_index_or (tabs_of self.now) table no_table).range) }
     {
-        match self.tables.get(table) {
-            Some(t) => (t.size, t.range),
-            None => (0, Range { low: 0, high: 0 }),
-        }
+        let table = &self.tables[table];
+        (table.size, table.range)
     }
 }

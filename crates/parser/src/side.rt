@@ -6,7 +6,9 @@ ghost use Rattle.language_theory.specs.Expected.{one};
 ghost use Rattle.language_theory.specs.Expected.Expect.{just, span, right, behind_minus};
 ghost use Rattle.language_theory.specs.Expected.Terminal.{any_name};
 ghost use Rattle.language_theory.specs.Readings.{first_names, TurnsBack, Over, Quiet, KnowsNegates, is_span, is_right, is_negative, is_index};
-ghost use Rattle.parser.specs.Models.{left};
+ghost use Rattle.language_theory.specs.declared.Value.TheVariants.{AnyOf, Sum};
+ghost use Rattle.parser.specs.Models.{left, fixed};
+ghost use Rattle.parser.specs.declared.side.Side.TheVariants.{Value};
 ghost use Rattle.parser.specs.Scripts.{Reads, Halts, BehindMark, variable_in, side_in};
 
 use crate::script::Script;
@@ -15,10 +17,13 @@ use base::{Place, Reason, Refusal};
 use language_theory::{Range, Source, Value};
 use lexer::Mark;
 
-/// A table read: the numbers of the table and of the variable that is its index, and the place of the index.
+/// A table read: the number of the table with its size and its range, the number of the variable that is its index, and
+/// the place of the index.
 #[derive(Clone, Copy, PartialEq, Eq, Debug)]
 pub struct Reading {
     pub table: usize,
+    pub size: u32,
+    pub range: Range,
     pub index: usize,
     pub place: Place,
 }
@@ -113,9 +118,12 @@ impl<'a> Script<'a> {
         let (name, place) = self.sentence.name()?;
         if self.sentence.accept(Mark::OpenBracket) {
             let table = self.names.table(name, place)?;
+            let (size, range) = self.names.shape(table);
             let (index, place) = self.read_index()?;
             return Ok(Side::Entry(Reading {
                 table,
+                size,
+                range,
                 index,
                 place,
             }));

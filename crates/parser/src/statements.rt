@@ -28,7 +28,7 @@ impl<'a> Scribe<'a> {
         self.script.sentence.mark(Mark::Becomes)?;
         let right = self.script.read_side()?;
         self.script.sentence.mark(Mark::Semicolon)?;
-        self.drawing.assign(&self.script.names, place, k, right)
+        self.drawing.assign(place, k, right)
     }
 
     // Takes if condition block [else block].

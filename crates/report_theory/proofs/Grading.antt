@@ -15,31 +15,25 @@ use Rattle.strategy_theory.specs.Theory.{Below}
 use Rattle.language_theory.specs.Graphs.{Graph}
 use Rattle.language_theory.specs.Names.{Verdict}
 use Rattle.language_theory.specs.Names.Outcome.{drawn}
-use Rattle.language_theory.specs.declared.Source.{Source}
-use Rattle.language_theory.specs.declared.Source.TheVariants as source
 use Rattle.language_theory.specs.declared.Action.{Action}
-use Rattle.language_theory.specs.declared.Action.TheVariants.{Skip, Any, Read, Shift, Negate, AtMost, AtLeast, Before}
+use Rattle.language_theory.specs.declared.Action.TheVariants.{Skip, Assign, Assume}
+use Rattle.language_theory.specs.declared.Value.{Value}
+use Rattle.language_theory.specs.declared.Value.TheVariants.{AnyOf, TableEntry, Sum, Negation}
 use Rattle.language_theory.specs.declared.Edge.{Edge}
-use Rattle.script_equations_theory.specs.Fitting.{ActionFits, Fits}
-use Rattle.script_equations_theory.proofs.Fits.{fits_of}
+use Rattle.language_theory.specs.WellFormed.{ValueFits, ActionFits, WellFormed}
+use Rattle.language_theory.proofs.Verdicts.{drawn_well}
 use Rattle.script_equations_theory.specs.Bounds.{lower, variables_of, bound_book}
-use Rattle.script_equations_theory.specs.Grades.{grade_at, grade_copied, grade_from, grade_of, grade_book}
+use Rattle.script_equations_theory.specs.Grades.{grade_at, grade_copied, source_grade, grade_of, grade_book, grade_assigned}
 use Rattle.script_equations_theory.proofs.Lists.{by_eq, contains_first}
 use Rattle.script_equations_theory.proofs.Forms.{bound_well, grade_well}
 use Rattle.soundness_theory.specs.Intervals.{ends}
 use Rattle.soundness_theory.specs.Questions.{all_below}
 use Rattle.soundness_theory.proofs.Settling.{all_out, all_in}
 use Rattle.soundness_theory.proofs.Passing.{Blocked, blocked}
-use Rattle.soundness_theory.proofs.Sources.{over, over_edge}
+use Rattle.soundness_theory.proofs.Sources.{over, over_edge, source_given}
 use Rattle.soundness_theory.proofs.Outside.{without, upper_not, lower_not, least_outside}
 use Rattle.report_theory.specs.Grading.{HaveGrades, Graded}
 use Rattle.report_theory.proofs.Ends.{settled_least}
-
--- a value that is given has a grade
-source_graded : (s : Source) → up_to Written (grade_from s) ≡ true
-source_graded source.Written = refl
-source_graded source.Sensed = refl
-source_graded source.Heard = refl
 
 module _ (g : Graph) (z : List Grade) where
   -- whether v has a grade at p
@@ -64,17 +58,18 @@ module _ (g : Graph) (z : List Grade) where
     sets : (k v : ℕ) (a : Alternative Grade NoWeight) → Carries a → v < variables_of g → Carries (cond (eqb v k) a (grade_copied (grade_at (variables_of g) q v)))
     sets k v a c hv = by_eq Carries v k a (grade_copied (grade_at (variables_of g) q v)) (λ e. c) (λ e. all v hv)
 
+    value_carries : (k : ℕ) → k < variables_of g → (x : Value) → ValueFits (variables_of g) x → Carries (grade_assigned (variables_of g) q k x)
+    value_carries k h (AnyOf r s) f = subst (λ (b : Bool). up_to Written (cond b (source_grade s) Unreached) ≡ true) (sym (all k h)) (source_given s)
+    value_carries k h (TableEntry i r) f = all i f.0
+    value_carries k h (Sum i c) f = all i f.0
+    value_carries k h (Negation i) f = all i f
+
     carries : (a : Action) → ActionFits (variables_of g) a → (v : ℕ) → v < variables_of g → Carries (grade_of (variables_of g) q v a)
     carries Skip f v hv = all v hv
-    carries (Any k r s) f v hv = sets k v _ (subst (λ (b : Bool). up_to Written (cond b (grade_from s) Unreached) ≡ true) (sym (all k f.0)) (source_graded s)) hv
-    carries (Read k i r) f v hv = sets k v (grade_copied (grade_at (variables_of g) q i)) (all i f.1) hv
-    carries (Shift k i c) f v hv = sets k v (grade_copied (grade_at (variables_of g) q i)) (all i f.1) hv
-    carries (Negate k i) f v hv = sets k v (grade_copied (grade_at (variables_of g) q i)) (all i f.1) hv
-    carries (AtMost i c) f v hv = all v hv
-    carries (AtLeast i c) f v hv = all v hv
-    carries (Before i k d) f v hv = all v hv
+    carries (Assign k x) f v hv = sets k v (grade_assigned (variables_of g) q k x) (value_carries k f.0 x f.1) hv
+    carries (Assume b) f v hv = all v hv
 
-  module _ (fits : Fits g) (up : HoldsUp grades (grade_book g) z) where
+  module _ (fits : WellFormed g) (up : HoldsUp grades (grade_book g) z) where
     -- all variables have grades at the first point
     first : all_graded 0 ≡ true
     first = all_in (has_grade 0) (variables_of g) (λ v hv. over g fits z up 0 v fits.first hv (constant Written) (contains_first (constant Written) []))
@@ -106,7 +101,7 @@ module _ (g : Graph) (z : List Grade) where
 
 pub graded : (bs : List ℕ) (g : Graph) → Verdict bs (drawn g) → Graded g
 graded bs g d k j y z s t =
-    let fits = fits_of bs g d in
+    let fits = (drawn_well bs g d).1 in
     let b = settled_least bounds bounds_laws (bound_book g) (bound_well g fits) k y s in
     let r = settled_least grades grades_laws (grade_book g) (grade_well g fits) j z t in
     have_grades g z fits (record { long = r.solves.long; under = t.settled }) y (record { long = b.solves.long; under = s.settled }) b.below

@@ -20,7 +20,7 @@ use Rattle.language_theory.specs.Names.Verdict.{too_long, by_rule, too_many, fin
 use Rattle.language_theory.specs.Rules.{words}
 use Rattle.language_theory.specs.declared.Range.{Range}
 use Rattle.language_theory.proofs.Verdicts.{passes_script}
-use Rattle.script_equations_theory.specs.Fitting.{no_variable}
+use Rattle.language_theory.specs.Graphs.{no_variable}
 use Rattle.report_theory.specs.Reports.{name_of}
 use Rattle.report_theory.proofs.Plainness.{ends_field, Plain}
 

@@ -14,8 +14,8 @@ use Rattle.kinds.specs.declared.grade.Grade.{Grade}
 use Rattle.books.specs.Forms.{Well}
 use Rattle.language_theory.specs.Graphs.{Graph, Each}
 use Rattle.language_theory.specs.declared.Lookup.{Lookup}
-use Rattle.script_equations_theory.specs.Fitting.{Fits}
-use Rattle.script_equations_theory.proofs.Fits.{fits_of}
+use Rattle.language_theory.specs.WellFormed.{WellFormed}
+use Rattle.language_theory.proofs.Verdicts.{drawn_well}
 use Rattle.script_equations_theory.specs.Bounds.{variables_of, bound_book}
 use Rattle.script_equations_theory.proofs.Forms.{bound_well}
 use Rattle.soundness_theory.specs.Runs.{size_of}
@@ -50,8 +50,8 @@ line_count r =
     omega (arith, length-append (rows ++ found) (end_fields (length r.found) ∷ []), length-append rows found, length-map r.rows row_fields, length-map r.found found_fields)
 
 module _ (bs : List ℕ) (g : Graph) (k : ℕ) (y : List Bound) (z : List Grade) (s : ScriptSettles bs g k y) where
-  fits : Fits g
-  fits = fits_of bs g s.script
+  fits : WellFormed g
+  fits = (drawn_well bs g s.script).1
 
   well : Well bounds (bound_book g)
   well = bound_well g fits

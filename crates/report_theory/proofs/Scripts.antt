@@ -10,9 +10,8 @@ use Rattle.language_theory.specs.Graphs.{Graph, Each}
 use Rattle.language_theory.specs.Names.{Verdict}
 use Rattle.language_theory.specs.Names.Outcome.{drawn}
 use Rattle.language_theory.specs.declared.Lookup.{Lookup}
-use Rattle.language_theory.proofs.Drawings.{each_map}
+use Rattle.script_equations_theory.proofs.Lists.{contains_first, contains_behind}
 use Rattle.language_theory.proofs.Verdicts.{drawn_well}
-use Rattle.script_equations_theory.proofs.Fits.{fits_of}
 use Rattle.script_equations_theory.specs.Bounds.{variables_of, bound_book}
 use Rattle.script_equations_theory.proofs.Forms.{bound_well}
 use Rattle.soundness_theory.specs.Runs.{size_of}
@@ -54,6 +53,11 @@ each_filtered : {A B : Type 0} (P : A → Type 0) (Q : B → Type 0) (f : A → 
 each_filtered P Q f g [] h = tt
 each_filtered P Q f g (x ∷ xs) h = each_option Q (f x) (filter_map f xs) (g x h.0) (each_filtered P Q f g xs h.1)
 
+-- what holds of all that a list contains
+each_in : {A : Type 0} (P : A → Type 0) (xs : List A) → ((x : A) → Contains xs x → P x) → Each P xs
+each_in P [] h = tt
+each_in P (x ∷ xs) h = (h x (contains_first x xs), each_in P xs (λ y c. h y (contains_behind x xs y c)))
+
 each_both : {A : Type 0} (P Q : A → Type 0) (xs : List A) → Each P xs → Each Q xs → Each (λ (x : A). P x × Q x) xs
 each_both P Q [] h k = tt
 each_both P Q (x ∷ xs) h k = ((h.0, k.0), each_both P Q xs h.1 k.1)
@@ -69,7 +73,7 @@ module _ (bs : List ℕ) (g : Graph) (v : Verdict bs (drawn g)) (y : List Bound)
   known_short (Some i) r h = record { lowest = h.0; highest = h.1 }
 
   row_readable : (p x : ℕ) → p < g.points → x < variables_of g → ReadableRow (row_of g y z p x)
-  row_readable p x h k = let f = (fits_of bs g v).few_points in record { point = omega arith; name = names_plain bs g v x k; reach = known_short (interval g y p x) (grade_there g y z p x) (short p x) }
+  row_readable p x h k = let f = (drawn_well bs g v).1.few_points in record { point = omega arith; name = names_plain bs g v x k; reach = known_short (interval g y p x) (grade_there g y z p x) (short p x) }
 
   rows_readable : Each ReadableRow (flat_map (rows_at g y z) (range_with_len 0 g.points))
   rows_readable = each_flat (λ (p : ℕ). p < g.points) ReadableRow (rows_at g y z)
@@ -81,7 +85,7 @@ module _ (bs : List ℕ) (g : Graph) (v : Verdict bs (drawn g)) (y : List Bound)
   ReadFits l = Early 8193 l.place × (l.index < length g.variables)
 
   reads_fit : Each ReadFits g.lookups
-  reads_fit = each_map _ ReadFits (λ l h. (h.0, h.1.1)) g.lookups (each_both _ _ g.lookups (reads_early bs g v) (drawn_well bs g v).0.reads)
+  reads_fit = each_both (λ (l : Lookup). Early 8193 l.place) (λ (l : Lookup). l.index < length g.variables) g.lookups (reads_early bs g v) (each_in _ g.lookups (λ l c. ((drawn_well bs g v).1.lookups l c).index))
 
   found_readable : (l : Lookup) → ReadFits l → IfSome (found_of g y l) (λ (f : Finding). ReadableFound (found_at g y z f))
   found_readable l h = go (interval g y l.point l.index) (short l.point l.index)
@@ -105,7 +109,7 @@ module _ (bs : List ℕ) (g : Graph) (v : Verdict bs (drawn g)) (y : List Bound)
       (each_filtered ReadFits (λ (f : Finding). ReadableFound (found_at g y z f)) (found_of g y) found_readable g.lookups reads_fit)
 
   pub readable : (k : ℕ) → Short k → Readable (report_of g y z k)
-  readable k h = let f = (fits_of bs g v).few_points in record { points = omega arith; rounds = h; rows = rows_readable; found = founds_readable }
+  readable k h = let f = (drawn_well bs g v).1.few_points in record { points = omega arith; rounds = h; rows = rows_readable; found = founds_readable }
 
 -- so have those of a script's bounds that counted rounds come to
 short_sized : (n : ℕ) (x : Bound) → n ≤ 1536 → SizedBy n x → ShortBound x
@@ -119,7 +123,7 @@ short_pair n (Some i) h s = (short_sized n i.0 h s.0, short_sized n i.1 h s.1)
 
 short_reached : (bs : List ℕ) (g : Graph) → Verdict bs (drawn g) → (k : ℕ) (y : List Bound) → ComesAfter bounds (bound_book g) k y → (p x : ℕ) → ShortPair (interval g y p x)
 short_reached bs g v k y r p x =
-    let well = bound_well g (fits_of bs g v) in
+    let well = bound_well g (drawn_well bs g v).1 in
     let h = well.small in
     short_pair (length (bound_book g)) (interval g y p x) (omega arith) (intervals_sized g well k y r p x)
 

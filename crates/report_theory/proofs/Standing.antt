@@ -5,8 +5,8 @@ use Rattle.kinds.specs.Laws.{bounds_laws, grades_laws}
 use Rattle.language_theory.specs.Graphs.{Graph}
 use Rattle.language_theory.specs.Names.{Verdict}
 use Rattle.language_theory.specs.Names.Outcome.{drawn}
-use Rattle.script_equations_theory.specs.Fitting.{Fits}
-use Rattle.script_equations_theory.proofs.Fits.{fits_of}
+use Rattle.language_theory.specs.WellFormed.{WellFormed}
+use Rattle.language_theory.proofs.Verdicts.{drawn_well}
 use Rattle.script_equations_theory.specs.Bounds.{bound_book}
 use Rattle.script_equations_theory.specs.Grades.{grade_book}
 use Rattle.script_equations_theory.proofs.Forms.{bound_well, grade_well}
@@ -25,8 +25,8 @@ use Rattle.report_theory.proofs.Results.{same_results}
 
 settled_read_back : ReadBack
 settled_read_back bs bs' g g' k k' y y' z z' s s' e =
-    let f = fits_of bs g s.script in
-    let f' = fits_of bs' g' s'.script in
+    let f = (drawn_well bs g s.script).1 in
+    let f' = (drawn_well bs' g' s'.script).1 in
     let h = s.within in
     let h' = s'.within in
     let r = reached_read_back bs bs' g g' s.script s'.script k k' (omega arith) (omega arith) y y' s.settles.reaches s'.settles.reaches z z' e in
@@ -43,8 +43,8 @@ report_stands bs g v = record {
   grades_tell = grades_tell g fits;
 }
   where
-    fits : Fits g
-    fits = fits_of bs g v
+    fits : WellFormed g
+    fits = (drawn_well bs g v).1
 
 pub reports_stand : ReportsStand
 reports_stand = record { each = report_stands; room = has_room; read_back = settled_read_back }

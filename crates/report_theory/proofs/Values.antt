@@ -10,7 +10,7 @@ use Rattle.kinds.specs.declared.bound.Bound.TheVariants.{Least, Whole, Greatest}
 use Rattle.books.specs.Books.{at}
 use Rattle.books.proofs.Worth.{no_option}
 use Rattle.language_theory.specs.Graphs.{Graph}
-use Rattle.script_equations_theory.specs.Fitting.{Fits}
+use Rattle.language_theory.specs.WellFormed.{WellFormed}
 use Rattle.script_equations_theory.specs.Bounds.{upper, lower, variables_of, bound_book}
 use Rattle.script_equations_theory.proofs.Places.{none_of, bound_count, book_long}
 use Rattle.script_equations_theory.proofs.Forms.{bound_well}
@@ -67,7 +67,7 @@ pub record Known (g : Graph) (y : List Bound) : Type 0 where
   pub long : length y ≡ bound_count g
   pub told : (p v : ℕ) → p < g.points → v < variables_of g → Told g y p v
 
-pub settled_known : (g : Graph) → Fits g → (k : ℕ) (y : List Bound) → SettlesAfter bounds (bound_book g) k y → Known g y
+pub settled_known : (g : Graph) → WellFormed g → (k : ℕ) (y : List Bound) → SettlesAfter bounds (bound_book g) k y → Known g y
 settled_known g fits k y s =
     let least = settled_least bounds bounds_laws (bound_book g) (bound_well g fits) k y s in
     record {

@@ -6,7 +6,7 @@ use Rattle.kinds.specs.declared.bound.Bound.{Bound}
 use Rattle.kinds.specs.declared.grade.Grade.{Grade}
 use Rattle.books.specs.Books.{at}
 use Rattle.language_theory.specs.Graphs.{Graph}
-use Rattle.script_equations_theory.specs.Fitting.{no_variable}
+use Rattle.language_theory.specs.Graphs.{no_variable}
 use Rattle.script_equations_theory.specs.Bounds.{variables_of}
 use Rattle.script_equations_theory.specs.Grades.{grade_at}
 use Rattle.soundness_theory.specs.Intervals.{interval}

@@ -2,7 +2,6 @@
 use Rattle.std.proofs.Common.{◌≡◌, ℕ, zero, suc, ◌*◌, ◌/◌, ◌%◌, ◌<◌, ◌≤◌, get_or, not-suc-le-zero, Bool, true, false, cond, List, [], ◌∷◌, map, length, Ok, Err, Result, vec_items, slice_index_or, nat_lt, if◌then◌else◌, sym, refl, ap, ◌∙◌, subst, eqb, lt-ltb, arith, ℤ}
 use Rattle.std.proofs.lemmas.Bool.{ne_eqb}
 use Rattle.std.proofs.lemmas.List.{length-map, get_or-map}
-use Rattle.kinds.specs.Values.{small}
 use Rattle.kinds.specs.declared.bound.Bound.{Bound}
 use Rattle.kinds.specs.declared.grade.Grade.{Grade}
 use Rattle.kinds.specs.declared.grade.NoWeight.{NoWeight}
@@ -15,7 +14,8 @@ use Rattle.books.specs.Questions.{found, counted}
 use Rattle.books.proofs.Rows.{rows_long, counted_inside}
 use Rattle.language_theory.specs.Graphs as graphs
 use Rattle.language_theory.specs.declared.Edge.{Edge}
-use Rattle.script_equations_theory.specs.Fitting.{incoming, no_variable, EdgeFits}
+use Rattle.language_theory.specs.Graphs.{incoming, no_variable, range}
+use Rattle.language_theory.specs.WellFormed.{EdgeFits}
 use Rattle.script_equations_theory.specs.Bounds.{variables_of, upper_of, lower_of, uppers, lowers, bound_unknown, bound_book}
 use Rattle.script_equations_theory.specs.Grades.{grade_of, grades_at, grade_unknown, grade_book}
 use Rattle.script_equations_theory.proofs.Lists.{filter_contains}
@@ -132,24 +132,18 @@ module _ (g : Graph) (p v k : ℕ) (e : Edge) (n q : ℕ) (later : 0 < p) (h : O
   pub grade_behind : (a : Alternative Grade NoWeight) → a ≡ grade_of n q v e.action → Ok a ≡ found (nth (grades_at (meaning g) p v) k)
   grade_behind a is = ap (λ (x : _). Ok x) (is ∙ ap (λ (i : ℕ). grade_of i q v e.action) start.0 ∙ ap (λ (i : ℕ). grade_of (variables_of (meaning g)) i v e.action) start.1) ∙ grade_found (meaning g) p not_zero v k e h
 
--- the declared range of a variable has ends of allowed size
-pub low_small : (g : Graph) (v : ℕ) (d : Variable) → v < variables_of (meaning g) → small (slice_index_or (vec_items g.variables) v d).range.low ≡ true
-low_small g v d h =
-    subst (λ (r : graphs.Variable). small r.range.low ≡ true) (get_or-map variable_of (vec_items g.variables) v d no_variable inside) ((graph_fits g).ranges v h).low_small
+-- the declared range of a variable
+pub range_is : (g : Graph) (v : ℕ) (d : Variable) → v < variables_of (meaning g) → (slice_index_or (vec_items g.variables) v d).range ≡ range (meaning g) v
+range_is g v d h = ap (λ (x : graphs.Variable). x.range) (sym (get_or-map variable_of (vec_items g.variables) v d no_variable inside))
   where
     inside : v < length (vec_items g.variables)
     inside = subst (λ (i : ℕ). v < i) (length-map (vec_items g.variables) variable_of) h
 
-edges_are : (g : Graph) (p : ℕ) (l : List Edge) → p < g.points → l ≡ (if nat_lt p g.points then incoming p (vec_items g.edges) else []) → l ≡ incoming p (vec_items g.edges)
-edges_are g p l b is = is ∙ ap (λ (t : Bool). if t then incoming p (vec_items g.edges) else []) (lt-ltb p g.points b)
-
 -- the alternatives of an unknown that is not of point 0, l being the edges to its point
-pub bound_width_is : (g : Graph) (u p : ℕ) (l : List Edge) → u / 2 < variables_of (meaning g) * g.points → p ≡ u / 2 / variables_of (meaning g) → p < g.points → eqb p 0 ≡ false →
-    l ≡ (if nat_lt p g.points then incoming p (vec_items g.edges) else []) → Ok (length l) ≡ counted (bound_book (meaning g)) u
-bound_width_is g u p l h e b later is =
-    ap (λ (k : List Edge). Ok (length k)) (edges_are g p l b is ∙ ap (λ (i : ℕ). incoming i (vec_items g.edges)) e) ∙ bound_width (meaning g) u h (ap (λ (i : ℕ). eqb i 0) (sym e) ∙ later)
+pub bound_width_is : (g : Graph) (u p : ℕ) (l : List Edge) → u / 2 < variables_of (meaning g) * g.points → p ≡ u / 2 / variables_of (meaning g) → eqb p 0 ≡ false → l ≡ incoming p (vec_items g.edges) → Ok (length l) ≡ counted (bound_book (meaning g)) u
+bound_width_is g u p l h e later is =
+    ap (λ (k : List Edge). Ok (length k)) (is ∙ ap (λ (i : ℕ). incoming i (vec_items g.edges)) e) ∙ bound_width (meaning g) u h (ap (λ (i : ℕ). eqb i 0) (sym e) ∙ later)
 
-pub grade_width_is : (g : Graph) (u p : ℕ) (l : List Edge) → u < variables_of (meaning g) * g.points → p ≡ u / variables_of (meaning g) → p < g.points → eqb p 0 ≡ false →
-    l ≡ (if nat_lt p g.points then incoming p (vec_items g.edges) else []) → Ok (length l) ≡ counted (grade_book (meaning g)) u
-grade_width_is g u p l h e b later is =
-    ap (λ (k : List Edge). Ok (length k)) (edges_are g p l b is ∙ ap (λ (i : ℕ). incoming i (vec_items g.edges)) e) ∙ grade_width (meaning g) u h (ap (λ (i : ℕ). eqb i 0) (sym e) ∙ later)
+pub grade_width_is : (g : Graph) (u p : ℕ) (l : List Edge) → u < variables_of (meaning g) * g.points → p ≡ u / variables_of (meaning g) → eqb p 0 ≡ false → l ≡ incoming p (vec_items g.edges) → Ok (length l) ≡ counted (grade_book (meaning g)) u
+grade_width_is g u p l h e later is =
+    ap (λ (k : List Edge). Ok (length k)) (is ∙ ap (λ (i : ℕ). incoming i (vec_items g.edges)) e) ∙ grade_width (meaning g) u h (ap (λ (i : ℕ). eqb i 0) (sym e) ∙ later)

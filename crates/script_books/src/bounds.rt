@@ -1,15 +1,17 @@
 // The bound book of a graph.
-ghost use Rattle.std.specs.Prelude.{◌≡◌, ◌<◌, cond, Ok, Err};
+ghost use Rattle.std.specs.Prelude.{◌≡◌, ◌<◌, cond, Ok, Err, [], ◌∷◌};
+ghost use Rattle.kinds.specs.declared.bound.Bound.TheVariants.{Whole};
 ghost use Rattle.base.specs.Reasons.{nowhere};
 ghost use Rattle.base.specs.declared.Reason.TheVariants.{NotThere};
 ghost use Rattle.books.specs.Books.{nth};
+ghost use Rattle.books.specs.Forms.{constant};
 ghost use Rattle.books.specs.Questions.{found};
-ghost use Rattle.script_equations_theory.specs.Bounds.{bound_book, uppers, lowers, variables_of, is_there, upper as upper_at};
+ghost use Rattle.script_equations_theory.specs.Bounds.{bound_book, uppers, lowers, variables_of, is_there, upper as upper_number};
 ghost use Rattle.script_graph.specs.Meaning.{meaning};
 ghost use Rattle.script_books.specs.Fitted.{bounds_well};
 
 use crate::ends::{Choice, lower_of, negated, upper_of};
-use crate::spots::{Spot, edge_to, number_of, spot_of, start_of};
+use crate::spots::{Spot, edge_to, edges_to, number_of, spot_of, start_of};
 use base::{Reason, Refusal};
 use books::{Alternative, Book};
 use kinds::Bound;
@@ -38,43 +40,49 @@ impl<'a> BoundBook<'a> {
 
     // The unknown of the upper bound of a variable at a point, if both are there. The next one is that of its lower bound, negated.
     pub fn upper_unknown(&self, point: usize, variable: usize) -> Result<usize, Refusal>
-        ensures { result ≡ cond (is_there (meaning self.now.graph.now) point variable) (Ok (upper_at (variables_of (meaning self.now.graph.now)) point variable)) (Err (nowhere NotThere)) }
+        ensures { result ≡ cond (is_there (meaning self.now.graph.now) point variable) (Ok (upper_number (variables_of (meaning self.now.graph.now)) point variable)) (Err (nowhere NotThere)) }
     {
         Ok(2 * number_of(self.graph, point, variable)?)
     }
 }
 
-// The alternatives of a variable at point 0: one, an end of its declared range.
-fn declared(graph: &Graph, variable: usize, upper: bool, number: usize) -> Result<Choice, Refusal>
-    requires { variable < variables_of (meaning graph.now) }
-    ensures { result ≡ found (nth (cond upper (uppers (meaning graph.now) 0 variable) (lowers (meaning graph.now) 0 variable)) number) }
+// The only alternative of an unknown at point 0: an end of the declared range.
+fn declared(end: i64, number: usize) -> Result<Choice, Refusal>
+    ensures { result ≡ found (nth (constant (Whole end) ∷ []) number) }
 {
     if number > 0 {
         return Err(Refusal::unplaced(Reason::NotThere));
     }
-    let range = graph.variables()[variable].range;
-    let end = if upper {
-        range.high
-    } else {
-        negated(range.low)
-    };
     Ok(Alternative::constant(Bound::Whole(end)))
 }
 
-// Those at any other point: one for each edge to it.
-fn behind(graph: &Graph, spot: Spot, upper: bool, number: usize) -> Result<Choice, Refusal>
+// The alternatives of an upper bound: at point 0 what is declared, and elsewhere one for each edge to the point.
+fn upper_at(graph: &Graph, spot: Spot, number: usize) -> Result<Choice, Refusal>
     requires variable { spot.variable < variables_of (meaning graph.now) }
     requires point { spot.point < graph.now.points }
-    requires later { 0 < spot.point }
-    ensures { result ≡ found (nth (cond upper (uppers (meaning graph.now) spot.point spot.variable) (lowers (meaning graph.now) spot.point spot.variable)) number) }
+    ensures { result ≡ found (nth (uppers (meaning graph.now) spot.point spot.variable) number) }
 {
+    if spot.point == 0 {
+        return declared(graph.variables()[spot.variable].range.high, number);
+    }
     let edge = edge_to(graph, spot.point, number)?;
     let start = start_of(graph, edge);
-    Ok(if upper {
-        upper_of(start, spot.variable, edge.action)
-    } else {
-        lower_of(start, spot.variable, edge.action)
-    })
+    Ok(upper_of(start, spot.variable, edge.action))
+}
+
+// Those of a lower bound, negated.
+fn lower_at(graph: &Graph, spot: Spot, number: usize) -> Result<Choice, Refusal>
+    requires variable { spot.variable < variables_of (meaning graph.now) }
+    requires point { spot.point < graph.now.points }
+    ensures { result ≡ found (nth (lowers (meaning graph.now) spot.point spot.variable) number) }
+{
+    if spot.point == 0 {
+        let low = graph.variables()[spot.variable].range.low;
+        return declared(negated(low), number);
+    }
+    let edge = edge_to(graph, spot.point, number)?;
+    let start = start_of(graph, edge);
+    Ok(lower_of(start, spot.variable, edge.action))
 }
 
 impl Book<Bound> for BoundBook<'_> {
@@ -95,9 +103,7 @@ impl Book<Bound> for BoundBook<'_> {
         Ok(if spot.point == 0 {
             1
         } else {
-            self.graph
-                .incoming(spot.point)
-                .map_or(0, |edges| edges.len())
+            edges_to(self.graph, spot.point).len()
         })
     }
 
@@ -105,11 +111,10 @@ impl Book<Bound> for BoundBook<'_> {
     #[tactic(auto, using(books::proofs::Rows::asked_inside, books::proofs::Rows::asked_past))]
     fn alternative(&self, unknown: usize, number: usize) -> Result<Choice, Refusal> {
         let spot = spot_of(self.graph, unknown / 2)?;
-        let upper = unknown % 2 == 0;
-        if spot.point == 0 {
-            declared(self.graph, spot.variable, upper, number)
+        if unknown % 2 == 0 {
+            upper_at(self.graph, spot, number)
         } else {
-            behind(self.graph, spot, upper, number)
+            lower_at(self.graph, spot, number)
         }
     }
 }

@@ -1,9 +1,7 @@
 // The alternatives of an upper bound, and of a lower bound negated, by what the edge does.
-ghost use Rattle.std.specs.Prelude.{◌≡◌, ◌<◌, true, cond, neg_ℤ};
-ghost use Rattle.kinds.specs.Values.{small};
-ghost use Rattle.books.specs.declared.Terms.TheVariants.{One, Two};
-ghost use Rattle.script_equations_theory.specs.Fitting.{ActionFits};
-ghost use Rattle.script_equations_theory.specs.Bounds.{as_is, copied as copied_of, given as given_for, low_enough as low_enough_at, high_enough as high_enough_at, apart_enough as apart_enough_at, upper_of as upper_for, lower_of as lower_for};
+ghost use Rattle.std.specs.Prelude.{◌≡◌, ◌<◌, neg_ℤ};
+ghost use Rattle.language_theory.specs.WellFormed.{ConstantFits, ValueFits, GuardFits, ActionFits};
+ghost use Rattle.script_equations_theory.specs.Bounds.{copied as copied_of, given as given_for, can_hold as can_hold_at, upper_assigned as upper_assigned_at, upper_assumed as upper_assumed_at, upper_of as upper_for, lower_assigned as lower_assigned_at, lower_assumed as lower_assumed_at, lower_of as lower_for};
 
 use crate::start::Start;
 use books::{Alternative, Term, Terms, Test};
@@ -15,7 +13,7 @@ pub(crate) type Choice = Alternative<Bound, i64>;
 
 // A constant of a script, negated.
 pub(crate) fn negated(constant: i64) -> i64
-    requires { small constant ≡ true }
+    requires { ConstantFits constant }
     ensures { result ≡ neg_ℤ constant }
 {
     -constant
@@ -73,7 +71,7 @@ fn can_hold(start: Start, guard: Guard) -> Test<Bound>
 fn upper_assigned(start: Start, target: usize, value: Value) -> Choice
     requires named { target < start.variables }
     requires fits { ValueFits start.variables value }
-    ensures { result ≡ upper_of_value start.variables start.point target value }
+    ensures { result ≡ upper_assigned_at start.variables start.point target value }
 {
     match value {
         Value::AnyOf { range, .. } => given(start, target, range.high),
@@ -87,7 +85,7 @@ fn upper_assigned(start: Start, target: usize, value: Value) -> Choice
 fn lower_assigned(start: Start, target: usize, value: Value) -> Choice
     requires named { target < start.variables }
     requires fits { ValueFits start.variables value }
-    ensures { result ≡ lower_of_value start.variables start.point target value }
+    ensures { result ≡ lower_assigned_at start.variables start.point target value }
 {
     match value {
         Value::AnyOf { range, .. } => given(start, target, negated(range.low)),
@@ -104,7 +102,7 @@ fn lower_assigned(start: Start, target: usize, value: Value) -> Choice
 fn upper_assumed(start: Start, variable: usize, guard: Guard) -> Terms<Bound, i64>
     requires named { variable < start.variables }
     requires fits { GuardFits start.variables guard }
-    ensures { result ≡ upper_under start.variables start.point variable guard }
+    ensures { result ≡ upper_assumed_at start.variables start.point variable guard }
 {
     let own = Term::Shifted(start.upper(variable), 0);
     match guard {
@@ -125,7 +123,7 @@ fn upper_assumed(start: Start, variable: usize, guard: Guard) -> Terms<Bound, i6
 fn lower_assumed(start: Start, variable: usize, guard: Guard) -> Terms<Bound, i64>
     requires named { variable < start.variables }
     requires fits { GuardFits start.variables guard }
-    ensures { result ≡ lower_under start.variables start.point variable guard }
+    ensures { result ≡ lower_assumed_at start.variables start.point variable guard }
 {
     let own = Term::Shifted(start.lower(variable), 0);
     match guard {

@@ -6,13 +6,13 @@ ghost use Rattle.base.specs.declared.Reason.TheVariants.{NotThere};
 ghost use Rattle.books.specs.Books.{nth};
 ghost use Rattle.books.specs.Questions.{found};
 ghost use Rattle.books.specs.Forms.{constant};
-ghost use Rattle.script_equations_theory.specs.Fitting.{ActionFits};
+ghost use Rattle.language_theory.specs.WellFormed.{ValueFits, ActionFits};
 ghost use Rattle.script_equations_theory.specs.Bounds.{variables_of, is_there};
-ghost use Rattle.script_equations_theory.specs.Grades.{grade_book, grade_at, grades_at, grade_of as grade_for, grade_from, grade_copied};
+ghost use Rattle.script_equations_theory.specs.Grades.{grade_book, grade_at, grades_at, grade_assigned, grade_of as grade_for, source_grade, grade_copied};
 ghost use Rattle.script_graph.specs.Meaning.{meaning};
 ghost use Rattle.script_books.specs.Fitted.{grades_well};
 
-use crate::spots::{Spot, edge_to, number_of, spot_of, start_of};
+use crate::spots::{Spot, edge_to, edges_to, number_of, spot_of, start_of};
 use crate::start::Start;
 use base::{Reason, Refusal};
 use books::{Alternative, Book, Term, Terms, Test};
@@ -54,7 +54,7 @@ type Choice = Alternative<Grade, NoWeight>;
 
 // The grade of a value by its source.
 fn graded(source: Source) -> Grade
-    ensures { result ≡ grade_from source }
+    ensures { result ≡ source_grade source }
 {
     match source {
         Source::Written => Grade::Written,
@@ -141,9 +141,7 @@ impl Book<Grade> for GradeBook<'_> {
         Ok(if spot.point == 0 {
             1
         } else {
-            self.graph
-                .incoming(spot.point)
-                .map_or(0, |edges| edges.len())
+            edges_to(self.graph, spot.point).len()
         })
     }
 

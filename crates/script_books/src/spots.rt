@@ -4,7 +4,8 @@ ghost use Rattle.base.specs.Reasons.{nowhere};
 ghost use Rattle.base.specs.declared.Reason.TheVariants.{NotThere};
 ghost use Rattle.books.specs.Books.{nth};
 ghost use Rattle.books.specs.Questions.{found};
-ghost use Rattle.script_equations_theory.specs.Fitting.{EdgeFits, incoming};
+ghost use Rattle.language_theory.specs.Graphs.{incoming};
+ghost use Rattle.language_theory.specs.WellFormed.{EdgeFits};
 ghost use Rattle.script_equations_theory.specs.Bounds.{variables_of, is_there, upper as upper_at, lower as lower_at};
 ghost use Rattle.script_equations_theory.specs.Grades.{grade_at};
 ghost use Rattle.script_graph.specs.Meaning.{meaning};
@@ -47,6 +48,14 @@ pub(crate) fn number_of(graph: &Graph, point: usize, variable: usize) -> Result<
     Ok(variables * point + variable)
 }
 
+// The edges to a point.
+pub(crate) fn edges_to(graph: &Graph, point: usize) -> &[Edge]
+    requires { point < graph.now.points }
+    ensures { result.now ≡ incoming point graph.now.edges.items }
+{
+    graph.incoming(point).unwrap_or(&[])
+}
+
 // An edge to a point, by its number among them.
 #[tactic(auto, using(crate::proofs::Edges::found_at, crate::proofs::Edges::found_past))]
 pub(crate) fn edge_to(graph: &Graph, point: usize, number: usize) -> Result<Edge, Refusal>
@@ -54,7 +63,7 @@ pub(crate) fn edge_to(graph: &Graph, point: usize, number: usize) -> Result<Edge
     ensures edge { result ≡ found (nth (incoming point graph.now.edges.items) number) }
     ensures fits { IfOk result (λ e. EdgeFits (meaning graph.now) e) }
 {
-    match graph.incoming(point).and_then(|edges| edges.get(number)) {
+    match edges_to(graph, point).get(number) {
         Some(edge) => Ok(*edge),
         None => Err(Refusal::unplaced(Reason::NotThere)),
     }

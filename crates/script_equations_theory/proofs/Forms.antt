@@ -1,7 +1,7 @@
 -- The books of a graph that fits are well formed.
 use Rattle.std.proofs.Common.{◌≡◌, ℕ, zero, suc, ◌/◌, ◌%◌, ◌<◌, ◌≤◌, true, cond, List, [], ◌∷◌, map, length, get_or, Contains, ℤ, pos, negsuc, neg_ℤ, unsigned_abs, nat_le, eqb, Some, sym, refl, subst, ⊎_elim, arith}
 use Rattle.std.specs.List.{range_with_len}
-use Rattle.std.proofs.lemmas.Bool.{cases_lt}
+use Rattle.std.proofs.lemmas.Bool.{cases_lt, le-leb}
 use Rattle.std.proofs.lemmas.List.{length-map}
 use Rattle.std.proofs.lemmas.Nat.{mod_below, mul-le}
 use Rattle.kinds.specs.Limits.{most_unknowns, most_alternatives}
@@ -24,17 +24,26 @@ use Rattle.books.specs.declared.Terms.TheVariants.{One, Two}
 use Rattle.books.specs.declared.Alternative.{Alternative}
 use Rattle.books.proofs.Worth.{no_option}
 use Rattle.books.proofs.Rows.{rows_long, row_inside, row_past}
-use Rattle.language_theory.specs.Graphs.{Graph}
+use Rattle.language_theory.specs.Graphs.{Graph, range, incoming}
+use Rattle.language_theory.specs.WellFormed.{ConstantFits, ValueFits, GuardFits, ActionFits, WellFormed}
 use Rattle.language_theory.specs.declared.Source.{Source}
 use Rattle.language_theory.specs.declared.Source.TheVariants.{Written, Sensed, Heard}
 use Rattle.language_theory.specs.declared.Action.{Action}
-use Rattle.language_theory.specs.declared.Action.TheVariants.{Skip, Any, Read, Shift, Negate, AtMost, AtLeast, Before}
+use Rattle.language_theory.specs.declared.Action.TheVariants.{Skip, Assign, Assume}
+use Rattle.language_theory.specs.declared.Guard.{Guard}
+use Rattle.language_theory.specs.declared.Guard.TheVariants.{AtMost, AtLeast, Difference}
+use Rattle.language_theory.specs.declared.Value.{Value}
+use Rattle.language_theory.specs.declared.Value.TheVariants.{AnyOf, TableEntry, Sum, Negation}
 use Rattle.language_theory.specs.declared.Edge.{Edge}
-use Rattle.script_equations_theory.specs.Fitting.{incoming, range, ActionFits, Fits}
-use Rattle.script_equations_theory.specs.Bounds.{under_test, as_is, copied, upper, lower, given, low_enough, high_enough, apart_enough, upper_of, lower_of, variables_of, uppers, lowers, bound_unknown, bound_book}
-use Rattle.script_equations_theory.specs.Grades.{grade_at, grade_copied, grade_from, grade_of, grade_unknown, grade_book}
+use Rattle.script_equations_theory.specs.Bounds.{under_test, as_is, copied, upper, lower, given, limited, can_hold, upper_assigned, upper_assumed, upper_of, lower_assigned, lower_assumed, lower_of, variables_of, uppers, lowers, bound_unknown, bound_book}
+use Rattle.script_equations_theory.specs.Grades.{grade_at, grade_copied, source_grade, grade_assigned, grade_of, grade_unknown, grade_book}
 use Rattle.script_equations_theory.proofs.Lists.{by_eq, in_either, contains_none, nth_contains, all_incoming}
 use Rattle.script_equations_theory.proofs.Places.{none_of, bound_count, grade_count, upper_below, lower_below, grade_below}
+
+-- a constant of a graph is of the size that books allow
+pub small_const : (c : ℤ) → ConstantFits c → small c ≡ true
+small_const (pos n) h = le-leb n most_size h
+small_const (negsuc n) h = le-leb (suc n) most_size h
 
 -- a constant negated is of allowed size too
 same_size : (c : ℤ) → unsigned_abs (neg_ℤ c) ≡ unsigned_abs c
@@ -84,46 +93,51 @@ module _ (g : Graph) (p v : ℕ) (hp : p < g.points) (hv : v < variables_of g) w
   given_well : (k : ℕ) → k < variables_of g → (c : ℤ) → small c ≡ true → WellAlternative bounds (bound_count g) (given (variables_of g) p k c)
   given_well k h c s = record { test = (upper_below g p k hp h, lower_below g p k hp h, whole_fits (pos 0) refl); each = well_one bounds (bound_count g) (Constant (Whole c)) (whole_fits c s) }
 
-  -- a guard's alternative: its test, the term of v, and where v is the variable that the guard limits a second term
-  guarded : (k : ℕ) (t : Test Bound) (s r : Term Bound ℤ) → WellTest bounds (bound_count g) t → WellTerm bounds (bound_count g) s → WellTerm bounds (bound_count g) r →
-      WellAlternative bounds (bound_count g) (under_test t (cond (eqb v k) (Two s r) (One s)))
-  guarded k t s r w a b = by_eq (λ (ts : Terms Bound ℤ). WellAlternative bounds (bound_count g) (under_test t ts)) v k (Two s r) (One s)
-      (λ e. record { test = w; each = well_two bounds (bound_count g) s r a b }) (λ e. record { test = w; each = well_one bounds (bound_count g) s a })
+  abbrev WellTerms : Terms Bound ℤ → Type 0
+  WellTerms ts = (t : Term Bound ℤ) → Among t ts → WellTerm bounds (bound_count g) t
 
-  low_well : (i : ℕ) (c : ℤ) → i < variables_of g → small c ≡ true → WellTest bounds (bound_count g) (low_enough (variables_of g) p i c)
-  low_well i c h s = (lower_below g p i hp h, whole_fits (neg_ℤ c) (small_minus c s))
+  limited_well : (k u : ℕ) (r : Term Bound ℤ) → WellTerm bounds (bound_count g) (as_is u) → WellTerm bounds (bound_count g) r → WellTerms (limited (eqb v k) u r)
+  limited_well k u r a b = by_eq WellTerms v k (Two (as_is u) r) (One (as_is u)) (λ e. well_two bounds (bound_count g) (as_is u) r a b) (λ e. well_one bounds (bound_count g) (as_is u) a)
 
-  high_well : (i : ℕ) (c : ℤ) → i < variables_of g → small c ≡ true → WellTest bounds (bound_count g) (high_enough (variables_of g) p i c)
-  high_well i c h s = (upper_below g p i hp h, whole_fits c s)
+  can_hold_well : (x : Guard) → GuardFits (variables_of g) x → WellTest bounds (bound_count g) (can_hold (variables_of g) p x)
+  can_hold_well (AtMost i c) f = (lower_below g p i hp f.0, whole_fits (neg_ℤ c) (small_minus c (small_const c f.1)))
+  can_hold_well (AtLeast i c) f = (upper_below g p i hp f.0, whole_fits c (small_const c f.1))
+  can_hold_well (Difference i k d) f = (lower_below g p i hp f.0, upper_below g p k hp f.1, whole_fits (neg_ℤ d) (small_minus d (small_const d f.3)))
 
-  apart_well : (i k : ℕ) (d : ℤ) → i < variables_of g → k < variables_of g → small d ≡ true → WellTest bounds (bound_count g) (apart_enough (variables_of g) p i k d)
-  apart_well i k d h j s = (lower_below g p i hp h, upper_below g p k hp j, whole_fits (neg_ℤ d) (small_minus d s))
+  upper_assigned_well : (k : ℕ) → k < variables_of g → (x : Value) → ValueFits (variables_of g) x → WellAlternative bounds (bound_count g) (upper_assigned (variables_of g) p k x)
+  upper_assigned_well k h (AnyOf r s) f = given_well k h r.high (small_const r.high f.high)
+  upper_assigned_well k h (TableEntry i r) f = given_well k h r.high (small_const r.high f.1.high)
+  upper_assigned_well k h (Sum i c) f = record { test = tt; each = well_one bounds (bound_count g) _ (place_u i f.0 c (small_const c f.1)) }
+  upper_assigned_well k h (Negation i) f = copy_l i f
+
+  upper_assumed_well : (x : Guard) → GuardFits (variables_of g) x → WellTerms (upper_assumed (variables_of g) p v x)
+  upper_assumed_well (AtMost i c) f = limited_well i (upper (variables_of g) p v) (Constant (Whole c)) (place_u v hv (pos 0) refl) (whole_fits c (small_const c f.1))
+  upper_assumed_well (AtLeast i c) f = (copy_u v hv).each
+  upper_assumed_well (Difference i k d) f = limited_well i (upper (variables_of g) p v) (Shifted (upper (variables_of g) p k) d) (place_u v hv (pos 0) refl) (place_u k f.1 d (small_const d f.3))
 
   pub upper_fine : (a : Action) → ActionFits (variables_of g) a → WellAlternative bounds (bound_count g) (upper_of (variables_of g) p v a)
   upper_fine Skip f = copy_u v hv
-  upper_fine (Any k r s) f = well_case bounds (bound_count g) v k _ _ (given_well k f.0 r.high f.1.high_small) (copy_u v hv)
-  upper_fine (Read k i r) f = well_case bounds (bound_count g) v k _ _ (given_well k f.0 r.high f.2.high_small) (copy_u v hv)
-  upper_fine (Shift k i c) f = well_case bounds (bound_count g) v k _ _ (record { test = tt; each = well_one bounds (bound_count g) _ (place_u i f.1 c f.2) }) (copy_u v hv)
-  upper_fine (Negate k i) f = well_case bounds (bound_count g) v k _ _ (copy_l i f.1) (copy_u v hv)
-  upper_fine (AtMost i c) f = guarded i (low_enough (variables_of g) p i c) (as_is (upper (variables_of g) p v)) (Constant (Whole c)) (low_well i c f.0 f.1) (place_u v hv (pos 0) refl) (whole_fits c f.1)
-  upper_fine (AtLeast i c) f = record { test = high_well i c f.0 f.1; each = (copy_u v hv).each }
-  upper_fine (Before i k d) f =
-      guarded i (apart_enough (variables_of g) p i k d) (as_is (upper (variables_of g) p v)) (Shifted (upper (variables_of g) p k) d) (apart_well i k d f.0 f.1 f.3) (place_u v hv (pos 0) refl) (place_u k f.1 d f.3)
+  upper_fine (Assign k x) f = well_case bounds (bound_count g) v k _ _ (upper_assigned_well k f.0 x f.1) (copy_u v hv)
+  upper_fine (Assume x) f = record { test = can_hold_well x f; each = upper_assumed_well x f }
+
+  lower_assigned_well : (k : ℕ) → k < variables_of g → (x : Value) → ValueFits (variables_of g) x → WellAlternative bounds (bound_count g) (lower_assigned (variables_of g) p k x)
+  lower_assigned_well k h (AnyOf r s) f = given_well k h (neg_ℤ r.low) (small_minus r.low (small_const r.low f.low))
+  lower_assigned_well k h (TableEntry i r) f = given_well k h (neg_ℤ r.low) (small_minus r.low (small_const r.low f.1.low))
+  lower_assigned_well k h (Sum i c) f = record { test = tt; each = well_one bounds (bound_count g) _ (place_l i f.0 (neg_ℤ c) (small_minus c (small_const c f.1))) }
+  lower_assigned_well k h (Negation i) f = copy_u i f
+
+  lower_assumed_well : (x : Guard) → GuardFits (variables_of g) x → WellTerms (lower_assumed (variables_of g) p v x)
+  lower_assumed_well (AtMost i c) f = (copy_l v hv).each
+  lower_assumed_well (AtLeast i c) f = limited_well i (lower (variables_of g) p v) (Constant (Whole (neg_ℤ c))) (place_l v hv (pos 0) refl) (whole_fits (neg_ℤ c) (small_minus c (small_const c f.1)))
+  lower_assumed_well (Difference i k d) f = limited_well k (lower (variables_of g) p v) (Shifted (lower (variables_of g) p i) d) (place_l v hv (pos 0) refl) (place_l i f.0 d (small_const d f.3))
 
   pub lower_fine : (a : Action) → ActionFits (variables_of g) a → WellAlternative bounds (bound_count g) (lower_of (variables_of g) p v a)
   lower_fine Skip f = copy_l v hv
-  lower_fine (Any k r s) f = well_case bounds (bound_count g) v k _ _ (given_well k f.0 (neg_ℤ r.low) (small_minus r.low f.1.low_small)) (copy_l v hv)
-  lower_fine (Read k i r) f = well_case bounds (bound_count g) v k _ _ (given_well k f.0 (neg_ℤ r.low) (small_minus r.low f.2.low_small)) (copy_l v hv)
-  lower_fine (Shift k i c) f = well_case bounds (bound_count g) v k _ _ (record { test = tt; each = well_one bounds (bound_count g) _ (place_l i f.1 (neg_ℤ c) (small_minus c f.2)) }) (copy_l v hv)
-  lower_fine (Negate k i) f = well_case bounds (bound_count g) v k _ _ (copy_u i f.1) (copy_l v hv)
-  lower_fine (AtMost i c) f = record { test = low_well i c f.0 f.1; each = (copy_l v hv).each }
-  lower_fine (AtLeast i c) f =
-      guarded i (high_enough (variables_of g) p i c) (as_is (lower (variables_of g) p v)) (Constant (Whole (neg_ℤ c))) (high_well i c f.0 f.1) (place_l v hv (pos 0) refl) (whole_fits (neg_ℤ c) (small_minus c f.1))
-  lower_fine (Before i k d) f =
-      guarded k (apart_enough (variables_of g) p i k d) (as_is (lower (variables_of g) p v)) (Shifted (lower (variables_of g) p i) d) (apart_well i k d f.0 f.1 f.3) (place_l v hv (pos 0) refl) (place_l i f.0 d f.3)
+  lower_fine (Assign k x) f = well_case bounds (bound_count g) v k _ _ (lower_assigned_well k f.0 x f.1) (copy_l v hv)
+  lower_fine (Assume x) f = record { test = can_hold_well x f; each = lower_assumed_well x f }
 
 -- the same for grades
-source_above : (s : Source) → grade_from s ≡ grade.Unreached → ⊥
+source_above : (s : Source) → source_grade s ≡ grade.Unreached → ⊥
 source_above Written e = cc
 source_above Sensed e = cc
 source_above Heard e = cc
@@ -132,20 +146,16 @@ module _ (g : Graph) (p v : ℕ) (hp : p < g.points) (hv : v < variables_of g) w
   grade_copy : (i : ℕ) → i < variables_of g → WellAlternative grades (grade_count g) (grade_copied (grade_at (variables_of g) p i))
   grade_copy i h = record { test = tt; each = well_one grades (grade_count g) (Shifted (grade_at (variables_of g) p i) Zero) (grade_below g p i hp h, refl) }
 
-  -- what is made of a value that is there, or v as it is
-  grade_or : (k i : ℕ) → i < variables_of g → WellAlternative grades (grade_count g) (cond (eqb v k) (grade_copied (grade_at (variables_of g) p i)) (grade_copied (grade_at (variables_of g) p v)))
-  grade_or k i h = well_case grades (grade_count g) v k _ _ (grade_copy i h) (grade_copy v hv)
+  grade_assigned_well : (k : ℕ) → k < variables_of g → (x : Value) → ValueFits (variables_of g) x → WellAlternative grades (grade_count g) (grade_assigned (variables_of g) p k x)
+  grade_assigned_well k h (AnyOf r s) f = record { test = (grade_below g p k hp h, (refl, source_above Written)); each = well_one grades (grade_count g) (Constant (source_grade s)) (refl, source_above s) }
+  grade_assigned_well k h (TableEntry i r) f = grade_copy i f.0
+  grade_assigned_well k h (Sum i c) f = grade_copy i f.0
+  grade_assigned_well k h (Negation i) f = grade_copy i f
 
   pub grade_fine : (a : Action) → ActionFits (variables_of g) a → WellAlternative grades (grade_count g) (grade_of (variables_of g) p v a)
   grade_fine Skip f = grade_copy v hv
-  grade_fine (Any k r s) f = well_case grades (grade_count g) v k _ _
-      (record { test = (grade_below g p k hp f.0, (refl, source_above Written)); each = well_one grades (grade_count g) (Constant (grade_from s)) (refl, source_above s) }) (grade_copy v hv)
-  grade_fine (Read k i r) f = grade_or k i f.1
-  grade_fine (Shift k i c) f = grade_or k i f.1
-  grade_fine (Negate k i) f = grade_or k i f.1
-  grade_fine (AtMost i c) f = grade_copy v hv
-  grade_fine (AtLeast i c) f = grade_copy v hv
-  grade_fine (Before i k d) f = grade_copy v hv
+  grade_fine (Assign k x) f = well_case grades (grade_count g) v k _ _ (grade_assigned_well k f.0 x f.1) (grade_copy v hv)
+  grade_fine (Assume x) f = grade_copy v hv
 
 -- a book that is made by a function of the unknown
 module _ {V W : Type 0} (o : Ops V W) (n : ℕ) (f : ℕ → List (Alternative V W)) (fine : (u : ℕ) → u < n → (a : Alternative V W) → Contains (f u) a → WellAlternative o n a)
@@ -167,7 +177,7 @@ module _ {V W : Type 0} (o : Ops V W) (n : ℕ) (f : ℕ → List (Alternative V
     fine = λ u k a e. subst (λ (j : ℕ). WellAlternative o j a) (sym (rows_long f n)) (row_fine u k a e);
   }
 
-module _ (g : Graph) (fits : Fits g) where
+module _ (g : Graph) (fits : WellFormed g) where
   places_few : grade_count g ≤ 768
   places_few = mul-le (variables_of g) g.points 8 96 fits.few_variables fits.few_points
 
@@ -179,13 +189,13 @@ module _ (g : Graph) (fits : Fits g) where
   -- the alternatives of U and of L are well formed
   uppers_fine : (p v : ℕ) → v < variables_of g → (a : Alternative Bound ℤ) → Contains (uppers g p v) a → WellAlternative bounds (bound_count g) a
   uppers_fine p v hv a = by_eq (λ (l : List (Alternative Bound ℤ)). Contains l a → WellAlternative bounds (bound_count g) a) p 0 _ _
-      (λ e. well_constant bounds (bound_count g) (Whole (range g v).high) (whole_fits (range g v).high (fits.ranges v hv).high_small) a)
+      (λ e. well_constant bounds (bound_count g) (Whole (range g v).high) (whole_fits (range g v).high (small_const (range g v).high (fits.ranges v hv).high)) a)
       (λ e. all_incoming (WellAlternative bounds (bound_count g)) (λ (d : Edge). upper_of (variables_of g) d.source v d.action) p g.edges
       (λ d k t. let f = fits.edges d k in upper_fine g d.source v f.source hv d.action f.action) a)
 
   lowers_fine : (p v : ℕ) → v < variables_of g → (a : Alternative Bound ℤ) → Contains (lowers g p v) a → WellAlternative bounds (bound_count g) a
   lowers_fine p v hv a = by_eq (λ (l : List (Alternative Bound ℤ)). Contains l a → WellAlternative bounds (bound_count g) a) p 0 _ _
-      (λ e. well_constant bounds (bound_count g) (Whole (neg_ℤ (range g v).low)) (whole_fits (neg_ℤ (range g v).low) (small_minus (range g v).low (fits.ranges v hv).low_small)) a)
+      (λ e. well_constant bounds (bound_count g) (Whole (neg_ℤ (range g v).low)) (whole_fits (neg_ℤ (range g v).low) (small_minus (range g v).low (small_const (range g v).low (fits.ranges v hv).low))) a)
       (λ e. all_incoming (WellAlternative bounds (bound_count g)) (λ (d : Edge). lower_of (variables_of g) d.source v d.action) p g.edges
       (λ d k t. let f = fits.edges d k in lower_fine g d.source v f.source hv d.action f.action) a)
 

@@ -1,9 +1,3 @@
-pub mod Once
-pub mod Joins
-pub mod Ranges
-pub mod Names
-pub mod Actions
-pub mod Fits
 pub mod Lists
 pub mod Places
 pub mod Forms

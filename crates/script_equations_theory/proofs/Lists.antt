@@ -9,7 +9,7 @@ use Rattle.books.specs.declared.Alternative.{Alternative}
 use Rattle.books.proofs.Order.{Le, le_trans, greater_left, greater_right}
 use Rattle.books.proofs.Asked.{some_same, inside_nth}
 use Rattle.language_theory.specs.declared.Edge.{Edge}
-use Rattle.script_equations_theory.specs.Fitting.{incoming}
+use Rattle.language_theory.specs.Graphs.{incoming}
 
 -- what is chosen by whether two numbers are equal
 pub by_eq : {X : Type 0} (P : X → Type 0) (v k : ℕ) (a b : X) → (v ≡ k → P a) → ((v ≡ k → ⊥) → P b) → P (cond (eqb v k) a b)

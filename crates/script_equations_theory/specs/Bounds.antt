@@ -12,11 +12,14 @@ use Rattle.books.specs.declared.Test.TheVariants.{Single, Joint}
 use Rattle.books.specs.declared.Terms.{Terms}
 use Rattle.books.specs.declared.Terms.TheVariants.{One, Two}
 use Rattle.books.specs.declared.Alternative.{Alternative}
-use Rattle.language_theory.specs.Graphs.{Graph}
+use Rattle.language_theory.specs.Graphs.{Graph, range, incoming}
 use Rattle.language_theory.specs.declared.Action.{Action}
-use Rattle.language_theory.specs.declared.Action.TheVariants.{Skip, Any, Read, Shift, Negate, AtMost, AtLeast, Before}
+use Rattle.language_theory.specs.declared.Action.TheVariants.{Skip, Assign, Assume}
+use Rattle.language_theory.specs.declared.Guard.{Guard}
+use Rattle.language_theory.specs.declared.Guard.TheVariants.{AtMost, AtLeast, Difference}
+use Rattle.language_theory.specs.declared.Value.{Value}
+use Rattle.language_theory.specs.declared.Value.TheVariants.{AnyOf, TableEntry, Sum, Negation}
 use Rattle.language_theory.specs.declared.Edge.{Edge}
-use Rattle.script_equations_theory.specs.Fitting.{incoming, range}
 
 -- an alternative of bounds: a test, and the terms that count where it holds
 abbrev pub under_test : Test Bound → Terms Bound ℤ → Alternative Bound ℤ
@@ -29,6 +32,10 @@ as_is u = Shifted u (pos 0)
 -- the alternative that is always this unknown
 abbrev pub copied : ℕ → Alternative Bound ℤ
 copied u = shifted u (pos 0)
+
+-- an unknown as it is, and where a guard limits it the smaller of that and the limit
+abbrev pub limited : Bool → ℕ → Term Bound ℤ → Terms Bound ℤ
+limited b u t = cond b (Two (as_is u) t) (One (as_is u))
 
 -- n is the number of variables, p a point, v a variable
 -- the number of the unknown U of v at p, and of L
@@ -46,38 +53,47 @@ reached n p v = Joint (upper n p v) (lower n p v) (Whole (pos 0))
 abbrev pub given : ℕ → ℕ → ℕ → ℤ → Alternative Bound ℤ
 given n p v c = under_test (reached n p v) (One (Constant (Whole c)))
 
--- a guard i ≤ c can hold at p, a guard i ≥ c can, and a guard i ≤ k + d can
-abbrev pub low_enough : ℕ → ℕ → ℕ → ℤ → Test Bound
-low_enough n p i c = Single (lower n p i) (Whole (neg_ℤ c))
+-- a guard can hold at p
+abbrev pub can_hold : ℕ → ℕ → Guard → Test Bound
+can_hold n p (AtMost i c) = Single (lower n p i) (Whole (neg_ℤ c))
+can_hold n p (AtLeast i c) = Single (upper n p i) (Whole c)
+can_hold n p (Difference i k d) = Joint (lower n p i) (upper n p k) (Whole (neg_ℤ d))
 
-abbrev pub high_enough : ℕ → ℕ → ℕ → ℤ → Test Bound
-high_enough n p i c = Single (upper n p i) (Whole c)
+-- the alternative of U of k for k := x from p
+abbrev pub upper_assigned : ℕ → ℕ → ℕ → Value → Alternative Bound ℤ
+upper_assigned n p k (AnyOf r s) = given n p k r.high
+upper_assigned n p k (TableEntry i r) = given n p k r.high
+upper_assigned n p k (Sum i c) = shifted (upper n p i) c
+upper_assigned n p k (Negation i) = copied (lower n p i)
 
-abbrev pub apart_enough : ℕ → ℕ → ℕ → ℕ → ℤ → Test Bound
-apart_enough n p i k d = Joint (lower n p i) (upper n p k) (Whole (neg_ℤ d))
+-- the terms of U of v where a guard holds at p
+abbrev pub upper_assumed : ℕ → ℕ → ℕ → Guard → Terms Bound ℤ
+upper_assumed n p v (AtMost i c) = limited (v == i) (upper n p v) (Constant (Whole c))
+upper_assumed n p v (AtLeast i c) = One (as_is (upper n p v))
+upper_assumed n p v (Difference i k d) = limited (v == i) (upper n p v) (Shifted (upper n p k) d)
 
--- the alternative of U of v for an edge from p. Any: k := any of r. Read: the last edge of a table read into k. Shift: k := i + c. Negate: k := -i.
--- AtMost: i ≤ c. AtLeast: i ≥ c. Before: i ≤ k + d
+-- the alternative of U of v for an edge from p
 abbrev pub upper_of : ℕ → ℕ → ℕ → Action → Alternative Bound ℤ
 upper_of n p v Skip = copied (upper n p v)
-upper_of n p v (Any k r s) = cond (v == k) (given n p k r.high) (copied (upper n p v))
-upper_of n p v (Read k i r) = cond (v == k) (given n p k r.high) (copied (upper n p v))
-upper_of n p v (Shift k i c) = cond (v == k) (shifted (upper n p i) c) (copied (upper n p v))
-upper_of n p v (Negate k i) = cond (v == k) (copied (lower n p i)) (copied (upper n p v))
-upper_of n p v (AtMost i c) = under_test (low_enough n p i c) (cond (v == i) (Two (as_is (upper n p v)) (Constant (Whole c))) (One (as_is (upper n p v))))
-upper_of n p v (AtLeast i c) = under_test (high_enough n p i c) (One (as_is (upper n p v)))
-upper_of n p v (Before i k d) = under_test (apart_enough n p i k d) (cond (v == i) (Two (as_is (upper n p v)) (Shifted (upper n p k) d)) (One (as_is (upper n p v))))
+upper_of n p v (Assign k x) = cond (v == k) (upper_assigned n p k x) (copied (upper n p v))
+upper_of n p v (Assume g) = under_test (can_hold n p g) (upper_assumed n p v g)
 
--- the same of L of v
+-- the same of L
+abbrev pub lower_assigned : ℕ → ℕ → ℕ → Value → Alternative Bound ℤ
+lower_assigned n p k (AnyOf r s) = given n p k (neg_ℤ r.low)
+lower_assigned n p k (TableEntry i r) = given n p k (neg_ℤ r.low)
+lower_assigned n p k (Sum i c) = shifted (lower n p i) (neg_ℤ c)
+lower_assigned n p k (Negation i) = copied (upper n p i)
+
+abbrev pub lower_assumed : ℕ → ℕ → ℕ → Guard → Terms Bound ℤ
+lower_assumed n p v (AtMost i c) = One (as_is (lower n p v))
+lower_assumed n p v (AtLeast i c) = limited (v == i) (lower n p v) (Constant (Whole (neg_ℤ c)))
+lower_assumed n p v (Difference i k d) = limited (v == k) (lower n p v) (Shifted (lower n p i) d)
+
 abbrev pub lower_of : ℕ → ℕ → ℕ → Action → Alternative Bound ℤ
 lower_of n p v Skip = copied (lower n p v)
-lower_of n p v (Any k r s) = cond (v == k) (given n p k (neg_ℤ r.low)) (copied (lower n p v))
-lower_of n p v (Read k i r) = cond (v == k) (given n p k (neg_ℤ r.low)) (copied (lower n p v))
-lower_of n p v (Shift k i c) = cond (v == k) (shifted (lower n p i) (neg_ℤ c)) (copied (lower n p v))
-lower_of n p v (Negate k i) = cond (v == k) (copied (upper n p i)) (copied (lower n p v))
-lower_of n p v (AtMost i c) = under_test (low_enough n p i c) (One (as_is (lower n p v)))
-lower_of n p v (AtLeast i c) = under_test (high_enough n p i c) (cond (v == i) (Two (as_is (lower n p v)) (Constant (Whole (neg_ℤ c)))) (One (as_is (lower n p v))))
-lower_of n p v (Before i k d) = under_test (apart_enough n p i k d) (cond (v == k) (Two (as_is (lower n p v)) (Shifted (lower n p i) d)) (One (as_is (lower n p v))))
+lower_of n p v (Assign k x) = cond (v == k) (lower_assigned n p k x) (copied (lower n p v))
+lower_of n p v (Assume g) = under_test (can_hold n p g) (lower_assumed n p v g)
 
 module _ (g : Graph) where
   -- how many variables there are

@@ -10,13 +10,14 @@ use Rattle.books.specs.declared.Term.TheVariants.{Constant}
 use Rattle.books.specs.declared.Test.TheVariants.{Single}
 use Rattle.books.specs.declared.Terms.TheVariants.{One}
 use Rattle.books.specs.declared.Alternative.{Alternative}
-use Rattle.language_theory.specs.Graphs.{Graph}
+use Rattle.language_theory.specs.Graphs.{Graph, incoming}
 use Rattle.language_theory.specs.declared.Source.{Source}
 use Rattle.language_theory.specs.declared.Source.TheVariants as source
 use Rattle.language_theory.specs.declared.Action.{Action}
-use Rattle.language_theory.specs.declared.Action.TheVariants.{Skip, Any, Read, Shift, Negate, AtMost, AtLeast, Before}
+use Rattle.language_theory.specs.declared.Action.TheVariants.{Skip, Assign, Assume}
+use Rattle.language_theory.specs.declared.Value.{Value}
+use Rattle.language_theory.specs.declared.Value.TheVariants.{AnyOf, TableEntry, Sum, Negation}
 use Rattle.language_theory.specs.declared.Edge.{Edge}
-use Rattle.script_equations_theory.specs.Fitting.{incoming}
 use Rattle.script_equations_theory.specs.Bounds.{variables_of}
 
 -- the unknown of the variable v at the point p, of n variables
@@ -27,22 +28,24 @@ grade_at n p v = n * p + v
 abbrev pub grade_copied : ℕ → Alternative Grade NoWeight
 grade_copied u = shifted u Zero
 
--- the grade of a value by its source
-abbrev pub grade_from : Source → Grade
-grade_from source.Written = grade.Written
-grade_from source.Sensed = grade.Sensed
-grade_from source.Heard = grade.Heard
+-- the grade of a source
+abbrev pub source_grade : Source → Grade
+source_grade source.Written = grade.Written
+source_grade source.Sensed = grade.Sensed
+source_grade source.Heard = grade.Heard
 
--- the alternative of v for an edge from p: a value that is given has the grade of its source, where p is reached; what is made of i, and what is read of a table at i, has the grade of i
+-- the alternative of k for k := x from p: a value that is given has the grade of its source, where p is reached; what is made of i, and what is read of a table at i, has the grade of i
+abbrev pub grade_assigned : ℕ → ℕ → ℕ → Value → Alternative Grade NoWeight
+grade_assigned n p k (AnyOf r s) = record { test = Single (grade_at n p k) grade.Written; terms = One (Constant (source_grade s)) }
+grade_assigned n p k (TableEntry i r) = grade_copied (grade_at n p i)
+grade_assigned n p k (Sum i c) = grade_copied (grade_at n p i)
+grade_assigned n p k (Negation i) = grade_copied (grade_at n p i)
+
+-- the alternative of v for an edge from p
 abbrev pub grade_of : ℕ → ℕ → ℕ → Action → Alternative Grade NoWeight
 grade_of n p v Skip = grade_copied (grade_at n p v)
-grade_of n p v (Any k r s) = cond (v == k) (record { test = Single (grade_at n p k) grade.Written; terms = One (Constant (grade_from s)) }) (grade_copied (grade_at n p v))
-grade_of n p v (Read k i r) = cond (v == k) (grade_copied (grade_at n p i)) (grade_copied (grade_at n p v))
-grade_of n p v (Shift k i c) = cond (v == k) (grade_copied (grade_at n p i)) (grade_copied (grade_at n p v))
-grade_of n p v (Negate k i) = cond (v == k) (grade_copied (grade_at n p i)) (grade_copied (grade_at n p v))
-grade_of n p v (AtMost i c) = grade_copied (grade_at n p v)
-grade_of n p v (AtLeast i c) = grade_copied (grade_at n p v)
-grade_of n p v (Before i k d) = grade_copied (grade_at n p v)
+grade_of n p v (Assign k x) = cond (v == k) (grade_assigned n p k x) (grade_copied (grade_at n p v))
+grade_of n p v (Assume g) = grade_copied (grade_at n p v)
 
 module _ (g : Graph) where
   -- the alternatives of v at p, in the order of the edges to p: at point 0 every value is written in the script

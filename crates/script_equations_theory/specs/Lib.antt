@@ -1,3 +1,2 @@
-pub mod Fitting
 pub mod Bounds
 pub mod Grades

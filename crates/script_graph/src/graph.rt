@@ -1,7 +1,6 @@
 // The graph of a script: variables and tables in the order declared, points, edges and table reads in the order made.
-ghost use Rattle.std.specs.Prelude.{◌≡◌, ◌≤◌, true, vec_len};
-ghost use Rattle.std.specs.List.{list_all};
-ghost use Rattle.script_graph.specs.Grouping.{graph_of, OfScript, edge_fits, lookup_fits, ByTarget};
+ghost use Rattle.std.specs.Prelude.{◌≡◌, ◌≤◌, vec_len};
+ghost use Rattle.script_graph.specs.Grouping.{graph_of, OfScript, ByTarget};
 
 use language_theory::{Edge, Lookup};
 use parser::{Table, Variable};
@@ -23,8 +22,6 @@ pub struct Graph {
     ghost few_points: { points ≤ 96 },
     ghost few_variables: { vec_len variables ≤ 8 },
     ghost few_tables: { vec_len tables ≤ 8 },
-    ghost edges_fit: { list_all (edge_fits points (vec_len variables)) edges.items ≡ true },
-    ghost lookups_fit: { list_all (lookup_fits points (vec_len variables) (vec_len tables)) lookups.items ≡ true },
     ghost for_each_point: { vec_len incoming ≡ points },
     ghost by_target: { ByTarget edges.items incoming.items },
     ghost drawn: { ∥ OfScript (graph_of variables.items tables.items points edges.items lookups.items) ∥₁ },

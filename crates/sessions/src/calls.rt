@@ -7,7 +7,7 @@ ghost use Rattle.strategy_theory.specs.Lives.Call.{question};
 ghost use Rattle.strategy_theory.specs.Promises.{GoesOn, LivesStand};
 ghost use Rattle.solver.specs.Answers.{IsUnplaced};
 ghost use Rattle.solver.specs.Analyses.{state_of};
-ghost use Rattle.script_equations_theory.specs.Fitting.{Fits};
+ghost use Rattle.language_theory.specs.WellFormed.{WellFormed};
 ghost use Rattle.script_equations_theory.specs.Bounds.{bound_book};
 ghost use Rattle.soundness_theory.specs.Kept.{RunsStand};
 ghost use Rattle.soundness_theory.specs.Questions.{Question, Told, ask};
@@ -113,7 +113,7 @@ pub fn make_script_calls(
     ensures whole { MatchResult result (λ answers. (length answers.items ≡ length calls.now) × All IsUnplaced answers.items × LivedWhole (meaning graph.now) (script_history calls.now answers.items)) (λ e. e ≡ no_memory) }
     ensures law { LivesStand bounds Question Told }
     ensures runs { RunsStand (meaning graph.now) }
-    ensures fits { Fits (meaning graph.now) }
+    ensures fits { WellFormed (meaning graph.now) }
 {
     let book = BoundBook::new(graph);
     let blank = Entry {

@@ -8,7 +8,7 @@ ghost use Rattle.strategy_theory.specs.Lives.Answer.{told};
 ghost use Rattle.strategy_theory.specs.Promises.{GoesOn};
 ghost use Rattle.solver.specs.Analyses.{state_of};
 ghost use Rattle.language_theory.specs.declared.Lookup.{Lookup};
-ghost use Rattle.script_equations_theory.specs.Fitting.{LookupFits};
+ghost use Rattle.language_theory.specs.WellFormed.{LookupFits};
 ghost use Rattle.script_equations_theory.specs.Bounds.{bound_book};
 ghost use Rattle.soundness_theory.specs.Runs.{OutsideRead};
 ghost use Rattle.soundness_theory.specs.Findings.{found_of, findings as findings_of, FindingOf};

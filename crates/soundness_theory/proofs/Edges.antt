@@ -17,15 +17,19 @@ use Rattle.books.specs.declared.Terms.TheVariants.{One, Two}
 use Rattle.books.specs.declared.Alternative.{Alternative}
 use Rattle.books.proofs.Bests.{smaller_over}
 use Rattle.strategy_theory.proofs.Walks.{shift_zero}
-use Rattle.language_theory.specs.Graphs.{Graph}
+use Rattle.language_theory.specs.Graphs.{Graph, range, incoming}
+use Rattle.language_theory.specs.WellFormed.{ValueFits, GuardFits, ActionFits, WellFormed}
 use Rattle.language_theory.specs.declared.Action.{Action}
-use Rattle.language_theory.specs.declared.Action.TheVariants.{Skip, Any, Read, Shift, Negate, AtMost, AtLeast, Before}
+use Rattle.language_theory.specs.declared.Action.TheVariants.{Skip, Assign, Assume}
+use Rattle.language_theory.specs.declared.Guard.{Guard}
+use Rattle.language_theory.specs.declared.Guard.TheVariants.{AtMost, AtLeast, Difference}
+use Rattle.language_theory.specs.declared.Value.{Value}
+use Rattle.language_theory.specs.declared.Value.TheVariants.{AnyOf, TableEntry, Sum, Negation}
 use Rattle.language_theory.specs.declared.Edge.{Edge}
-use Rattle.script_equations_theory.specs.Fitting.{incoming, range, ActionFits, Fits}
-use Rattle.script_equations_theory.specs.Bounds.{under_test, as_is, copied, upper, lower, reached, given, low_enough, high_enough, apart_enough, upper_of, lower_of, variables_of, uppers, lowers, bound_book}
+use Rattle.script_equations_theory.specs.Bounds.{under_test, as_is, copied, upper, lower, reached, given, limited, can_hold, upper_assigned, upper_assumed, upper_of, lower_assigned, lower_assumed, lower_of, variables_of, uppers, lowers, bound_book}
 use Rattle.script_equations_theory.proofs.Lists.{by_eq, in_incoming, in_best}
 use Rattle.script_equations_theory.proofs.Places.{book_long, upper_below, lower_below, upper_at, lower_at}
-use Rattle.soundness_theory.specs.Runs.{of, Acts}
+use Rattle.soundness_theory.specs.Runs.{of, Gives, guard_holds, Acts}
 
 -- the order of bounds
 infix 40 ◌≼◌
@@ -50,11 +54,10 @@ joint_by a b c x y p q h = bounds_laws.joint_rises (Whole a) (Whole b) x y (Whol
 pub le_worth : (y : List Bound) (z : Bound) (t : Test Bound) (ts : Terms Bound ℤ) → holds bounds y t ≡ true → z ≼ terms bounds y ts → z ≼ worth bounds y (under_test t ts)
 le_worth y z t ts h p = subst (λ (b : Bool). z ≼ cond b (terms bounds y ts) Least) (sym h) p
 
--- an alternative of a guard that holds: the term s, and where v is the variable that the guard limits the term r
-guarded : (y : List Bound) (z : Bound) (v k : ℕ) (t : Test Bound) (s r : Term Bound ℤ) → holds bounds y t ≡ true → z ≼ term bounds y s → (v ≡ k → z ≼ term bounds y r) →
-    z ≼ worth bounds y (under_test t (cond (eqb v k) (Two s r) (One s)))
-guarded y z v k t s r h p q = le_worth y z t (cond (eqb v k) (Two s r) (One s)) h
-    (by_eq (λ (ts : Terms Bound ℤ). z ≼ terms bounds y ts) v k (Two s r) (One s) (λ e. smaller_over bounds bounds_laws {x = term bounds y s} {y = term bounds y r} {z = z} p (q e)) (λ e. p))
+-- an unknown, and where v is the variable that a guard limits the term r
+under_limit : (y : List Bound) (z : Bound) (v k u : ℕ) (r : Term Bound ℤ) → z ≼ term bounds y (as_is u) → (v ≡ k → z ≼ term bounds y r) → z ≼ terms bounds y (limited (eqb v k) u r)
+under_limit y z v k u r p q =
+    by_eq (λ (ts : Terms Bound ℤ). z ≼ terms bounds y ts) v k (Two (as_is u) r) (One (as_is u)) (λ e. smaller_over bounds bounds_laws {x = term bounds y (as_is u)} {y = term bounds y r} {z = z} p (q e)) (λ e. p)
 
 -- whole numbers
 pub negated : (a b : ℤ) → int_le a b ≡ true → int_le (neg_ℤ b) (neg_ℤ a) ≡ true
@@ -108,77 +111,71 @@ module _ (n : ℕ) (y : List Bound) (p : ℕ) (x x' : List ℤ) (w : Bounded n y
   reached_holds : (k : ℕ) → k < n → holds bounds y (reached n p k) ≡ true
   reached_holds k h = joint_by (of x k) (neg_ℤ (of x k)) (pos 0) _ _ (w.up k h) (w.down k h) (none_left (of x k))
 
-  given_up : (v k : ℕ) (b z : ℤ) → v < n → k < n → int_le z b ≡ true → x' ≡ set x k z → Whole (of x' v) ≼ worth bounds y (cond (eqb v k) (given n p k b) (copied (upper n p v)))
-  given_up v k b z hv hk h e = by_eq (λ (a : Alternative Bound ℤ). Whole (of x' v) ≼ worth bounds y a) v k _ _
-      (λ f. le_worth y (Whole (of x' v)) (reached n p k) (One (Constant (Whole b))) (reached_holds k hk) (to_up v z (Whole b) (set_here k z hk e v f) h))
-      (λ f. up_same v hv (set_else k z e v f))
+  given_up : (k : ℕ) (b z : ℤ) → k < n → int_le z b ≡ true → Whole z ≼ worth bounds y (given n p k b)
+  given_up k b z hk h = le_worth y (Whole z) (reached n p k) (One (Constant (Whole b))) (reached_holds k hk) h
 
-  given_down : (v k : ℕ) (b z : ℤ) → v < n → k < n → int_le b z ≡ true → x' ≡ set x k z →
-      Whole (neg_ℤ (of x' v)) ≼ worth bounds y (cond (eqb v k) (given n p k (neg_ℤ b)) (copied (lower n p v)))
-  given_down v k b z hv hk h e = by_eq (λ (a : Alternative Bound ℤ). Whole (neg_ℤ (of x' v)) ≼ worth bounds y a) v k _ _
-      (λ f. le_worth y (Whole (neg_ℤ (of x' v))) (reached n p k) (One (Constant (Whole (neg_ℤ b)))) (reached_holds k hk) (to_down v z (Whole (neg_ℤ b)) (set_here k z hk e v f) (negated b z h)))
-      (λ f. down_same v hv (set_else k z e v f))
+  given_down : (k : ℕ) (b z : ℤ) → k < n → int_le b z ≡ true → Whole (neg_ℤ z) ≼ worth bounds y (given n p k (neg_ℤ b))
+  given_down k b z hk h = le_worth y (Whole (neg_ℤ z)) (reached n p k) (One (Constant (Whole (neg_ℤ b)))) (reached_holds k hk) (negated b z h)
+
+  -- what a variable can be set to
+  gives_up : (k : ℕ) → k < n → (a : Value) → ValueFits n a → (z : ℤ) → Gives a x z → Whole z ≼ worth bounds y (upper_assigned n p k a)
+  gives_up k h (AnyOf r s) f z d = given_up k r.high z h d.high
+  gives_up k h (TableEntry i r) f z d = given_up k r.high z h d.high
+  gives_up k h (Sum i c) f z d = subst (λ (a : ℤ). Whole a ≼ moved (at bounds y (upper n p i)) c) (sym d) (le_moved (of x i) c (at bounds y (upper n p i)) (w.up i f.0))
+  gives_up k h (Negation i) f z d = subst (λ (a : ℤ). Whole a ≼ moved (at bounds y (lower n p i)) (pos 0)) (sym d) (le_same (Whole (neg_ℤ (of x i))) (at bounds y (lower n p i)) (w.down i f))
+
+  gives_down : (k : ℕ) → k < n → (a : Value) → ValueFits n a → (z : ℤ) → Gives a x z → Whole (neg_ℤ z) ≼ worth bounds y (lower_assigned n p k a)
+  gives_down k h (AnyOf r s) f z d = given_down k r.low z h d.low
+  gives_down k h (TableEntry i r) f z d = given_down k r.low z h d.low
+  gives_down k h (Sum i c) f z d = subst (λ (a : ℤ). Whole a ≼ moved (at bounds y (lower n p i)) (neg_ℤ c)) (sym (ap neg_ℤ d ∙ minus_sum (of x i) c))
+      (le_moved (neg_ℤ (of x i)) (neg_ℤ c) (at bounds y (lower n p i)) (w.down i f.0))
+  gives_down k h (Negation i) f z d = subst (λ (a : ℤ). Whole a ≼ moved (at bounds y (upper n p i)) (pos 0)) (sym (ap neg_ℤ d ∙ minus_minus (of x i)))
+      (le_same (Whole (of x i)) (at bounds y (upper n p i)) (w.up i f))
 
   -- a guard that holds, as its test
-  low_holds : (i : ℕ) (c : ℤ) → i < n → int_le (of x i) c ≡ true → holds bounds y (low_enough n p i c) ≡ true
-  low_holds i c h d = trans (Whole (neg_ℤ c)) (Whole (neg_ℤ (of x i))) _ (negated (of x i) c d) (w.down i h)
+  guard_test : (g : Guard) → GuardFits n g → guard_holds g x ≡ true → holds bounds y (can_hold n p g) ≡ true
+  guard_test (AtMost i c) f d = trans (Whole (neg_ℤ c)) (Whole (neg_ℤ (of x i))) _ (negated (of x i) c d) (w.down i f.0)
+  guard_test (AtLeast i c) f d = trans (Whole c) (Whole (of x i)) _ d (w.up i f.0)
+  guard_test (Difference i k c) f d = joint_by (neg_ℤ (of x i)) (of x k) (neg_ℤ c) _ _ (w.down i f.0) (w.up k f.1) (apart_by (of x i) (of x k) c d)
 
-  high_holds : (i : ℕ) (c : ℤ) → i < n → int_le c (of x i) ≡ true → holds bounds y (high_enough n p i c) ≡ true
-  high_holds i c h d = trans (Whole c) (Whole (of x i)) _ d (w.up i h)
+  -- and what it leaves of a variable
+  module _ (e : x' ≡ x) (v : ℕ) (hv : v < n) where
+    as_at : (i : ℕ) → v ≡ i → of x' v ≡ of x i
+    as_at i h = same_at v e ∙ ap (λ (j : ℕ). of x j) h
 
-  apart_holds : (i k : ℕ) (c : ℤ) → i < n → k < n → int_le (of x i) (of x k +ℤ c) ≡ true → holds bounds y (apart_enough n p i k c) ≡ true
-  apart_holds i k c hi hk d = joint_by (neg_ℤ (of x i)) (of x k) (neg_ℤ c) _ _ (w.down i hi) (w.up k hk) (apart_by (of x i) (of x k) c d)
+    keeps_up : (g : Guard) → GuardFits n g → guard_holds g x ≡ true → Whole (of x' v) ≼ terms bounds y (upper_assumed n p v g)
+    keeps_up (AtMost i c) f d = under_limit y (Whole (of x' v)) v i (upper n p v) (Constant (Whole c)) (up_same v hv (same_at v e)) (λ h. to_up v (of x i) (Whole c) (as_at i h) d)
+    keeps_up (AtLeast i c) f d = up_same v hv (same_at v e)
+    keeps_up (Difference i k c) f d = under_limit y (Whole (of x' v)) v i (upper n p v) (Shifted (upper n p k) c) (up_same v hv (same_at v e))
+        (λ h. to_up v (of x i) _ (as_at i h) (trans (Whole (of x i)) (Whole (of x k +ℤ c)) _ d (le_moved (of x k) c (at bounds y (upper n p k)) (w.up k f.1))))
+
+    keeps_down : (g : Guard) → GuardFits n g → guard_holds g x ≡ true → Whole (neg_ℤ (of x' v)) ≼ terms bounds y (lower_assumed n p v g)
+    keeps_down (AtMost i c) f d = down_same v hv (same_at v e)
+    keeps_down (AtLeast i c) f d = under_limit y (Whole (neg_ℤ (of x' v))) v i (lower n p v) (Constant (Whole (neg_ℤ c))) (down_same v hv (same_at v e))
+        (λ h. to_down v (of x i) (Whole (neg_ℤ c)) (as_at i h) (negated c (of x i) d))
+    keeps_down (Difference i k c) f d = under_limit y (Whole (neg_ℤ (of x' v))) v k (lower n p v) (Shifted (lower n p i) c) (down_same v hv (same_at v e))
+        (λ h. to_down v (of x k) _ (as_at k h)
+        (trans (Whole (neg_ℤ (of x k))) (Whole (neg_ℤ (of x i) +ℤ c)) _ (before_low (of x i) (of x k) c d) (le_moved (neg_ℤ (of x i)) c (at bounds y (lower n p i)) (w.down i f.0))))
 
   pub acts_up : (a : Action) → ActionFits n a → Acts a x x' → (v : ℕ) → v < n → Whole (of x' v) ≼ worth bounds y (upper_of n p v a)
   acts_up Skip f d v hv = up_same v hv (same_at v d)
-  acts_up (Any k r s) f d v hv = given_up v k r.high d.0 hv f.0 d.1.high d.2
-  acts_up (Read k i r) f d v hv = given_up v k r.high d.0 hv f.0 d.1.high d.2
-  acts_up (Shift k i c) f d v hv = by_eq (λ (a : Alternative Bound ℤ). Whole (of x' v) ≼ worth bounds y a) v k _ _
-      (λ e. to_up v (of x i +ℤ c) _ (set_here k (of x i +ℤ c) f.0 d v e) (le_moved (of x i) c (at bounds y (upper n p i)) (w.up i f.1)))
-      (λ e. up_same v hv (set_else k (of x i +ℤ c) d v e))
-  acts_up (Negate k i) f d v hv = by_eq (λ (a : Alternative Bound ℤ). Whole (of x' v) ≼ worth bounds y a) v k _ _
-      (λ e. to_up v (neg_ℤ (of x i)) _ (set_here k (neg_ℤ (of x i)) f.0 d v e) (le_same (Whole (neg_ℤ (of x i))) (at bounds y (lower n p i)) (w.down i f.1)))
-      (λ e. up_same v hv (set_else k (neg_ℤ (of x i)) d v e))
-  acts_up (AtMost i c) f d v hv = guarded y (Whole (of x' v)) v i (low_enough n p i c) (as_is (upper n p v)) (Constant (Whole c)) (low_holds i c f.0 d.0) (up_same v hv (same_at v d.1))
-      (λ e. to_up v (of x i) (Whole c) (same_at v d.1 ∙ ap (λ (j : ℕ). of x j) e) d.0)
-  acts_up (AtLeast i c) f d v hv = le_worth y (Whole (of x' v)) (high_enough n p i c) (One (as_is (upper n p v))) (high_holds i c f.0 d.0) (up_same v hv (same_at v d.1))
-  acts_up (Before i k c) f d v hv =
-      guarded y (Whole (of x' v)) v i (apart_enough n p i k c) (as_is (upper n p v)) (Shifted (upper n p k) c) (apart_holds i k c f.0 f.1 d.0) (up_same v hv (same_at v d.1))
-      (λ e. to_up v (of x i) _ (same_at v d.1 ∙ ap (λ (j : ℕ). of x j) e) (trans (Whole (of x i)) (Whole (of x k +ℤ c)) _ d.0 (le_moved (of x k) c (at bounds y (upper n p k)) (w.up k f.1))))
+  acts_up (Assign k a) f d v hv = by_eq (λ (b : Alternative Bound ℤ). Whole (of x' v) ≼ worth bounds y b) v k _ _
+      (λ e. to_up v d.0 _ (set_here k d.0 f.0 d.2 v e) (gives_up k f.0 a f.1 d.0 d.1)) (λ e. up_same v hv (set_else k d.0 d.2 v e))
+  acts_up (Assume g) f d v hv = le_worth y (Whole (of x' v)) (can_hold n p g) (upper_assumed n p v g) (guard_test g f d.0) (keeps_up d.1 v hv g f d.0)
 
   pub acts_down : (a : Action) → ActionFits n a → Acts a x x' → (v : ℕ) → v < n → Whole (neg_ℤ (of x' v)) ≼ worth bounds y (lower_of n p v a)
   acts_down Skip f d v hv = down_same v hv (same_at v d)
-  acts_down (Any k r s) f d v hv = given_down v k r.low d.0 hv f.0 d.1.low d.2
-  acts_down (Read k i r) f d v hv = given_down v k r.low d.0 hv f.0 d.1.low d.2
-  acts_down (Shift k i c) f d v hv = by_eq (λ (a : Alternative Bound ℤ). Whole (neg_ℤ (of x' v)) ≼ worth bounds y a) v k _ _
-      (λ e. to_down v (of x i +ℤ c) _ (set_here k (of x i +ℤ c) f.0 d v e)
-      (subst (λ (z : ℤ). Whole z ≼ moved (at bounds y (lower n p i)) (neg_ℤ c)) (sym (minus_sum (of x i) c)) (le_moved (neg_ℤ (of x i)) (neg_ℤ c) (at bounds y (lower n p i)) (w.down i f.1))))
-      (λ e. down_same v hv (set_else k (of x i +ℤ c) d v e))
-  acts_down (Negate k i) f d v hv = by_eq (λ (a : Alternative Bound ℤ). Whole (neg_ℤ (of x' v)) ≼ worth bounds y a) v k _ _
-      (λ e. to_down v (neg_ℤ (of x i)) _ (set_here k (neg_ℤ (of x i)) f.0 d v e)
-      (subst (λ (z : ℤ). Whole z ≼ moved (at bounds y (upper n p i)) (pos 0)) (sym (minus_minus (of x i))) (le_same (Whole (of x i)) (at bounds y (upper n p i)) (w.up i f.1))))
-      (λ e. down_same v hv (set_else k (neg_ℤ (of x i)) d v e))
-  acts_down (AtMost i c) f d v hv = le_worth y (Whole (neg_ℤ (of x' v))) (low_enough n p i c) (One (as_is (lower n p v))) (low_holds i c f.0 d.0) (down_same v hv (same_at v d.1))
-  acts_down (AtLeast i c) f d v hv =
-      guarded y (Whole (neg_ℤ (of x' v))) v i (high_enough n p i c) (as_is (lower n p v)) (Constant (Whole (neg_ℤ c))) (high_holds i c f.0 d.0) (down_same v hv (same_at v d.1))
-      (λ e. to_down v (of x i) (Whole (neg_ℤ c)) (same_at v d.1 ∙ ap (λ (j : ℕ). of x j) e) (negated c (of x i) d.0))
-  acts_down (Before i k c) f d v hv =
-      guarded y (Whole (neg_ℤ (of x' v))) v k (apart_enough n p i k c) (as_is (lower n p v)) (Shifted (lower n p i) c) (apart_holds i k c f.0 f.1 d.0) (down_same v hv (same_at v d.1))
-      (λ e. to_down v (of x k) _ (same_at v d.1 ∙ ap (λ (j : ℕ). of x j) e)
-      (trans (Whole (neg_ℤ (of x k))) (Whole (neg_ℤ (of x i) +ℤ c)) _ (before_low (of x i) (of x k) c d.0) (le_moved (neg_ℤ (of x i)) c (at bounds y (lower n p i)) (w.down i f.0))))
+  acts_down (Assign k a) f d v hv = by_eq (λ (b : Alternative Bound ℤ). Whole (neg_ℤ (of x' v)) ≼ worth bounds y b) v k _ _
+      (λ e. to_down v d.0 _ (set_here k d.0 f.0 d.2 v e) (gives_down k f.0 a f.1 d.0 d.1)) (λ e. down_same v hv (set_else k d.0 d.2 v e))
+  acts_down (Assume g) f d v hv = le_worth y (Whole (neg_ℤ (of x' v))) (can_hold n p g) (lower_assumed n p v g) (guard_test g f d.0) (keeps_down d.1 v hv g f d.0)
 
   pub acts_long : (a : Action) → Acts a x x' → length x' ≡ n
   acts_long Skip d = ap length d ∙ w.long
-  acts_long (Any k r s) d = ap length d.2 ∙ length-set x k d.0 ∙ w.long
-  acts_long (Read k i r) d = ap length d.2 ∙ length-set x k d.0 ∙ w.long
-  acts_long (Shift k i c) d = ap length d ∙ length-set x k (of x i +ℤ c) ∙ w.long
-  acts_long (Negate k i) d = ap length d ∙ length-set x k (neg_ℤ (of x i)) ∙ w.long
-  acts_long (AtMost i c) d = ap length d.1 ∙ w.long
-  acts_long (AtLeast i c) d = ap length d.1 ∙ w.long
-  acts_long (Before i k c) d = ap length d.1 ∙ w.long
+  acts_long (Assign k a) d = ap length d.2 ∙ length-set x k d.0 ∙ w.long
+  acts_long (Assume g) d = ap length d.1 ∙ w.long
 
 -- what holds up lies at or above the alternatives, so above those of each edge
-module _ (g : Graph) (fits : Fits g) (y : List Bound) (hu : HoldsUp bounds (bound_book g) y) where
+module _ (g : Graph) (fits : WellFormed g) (y : List Bound) (hu : HoldsUp bounds (bound_book g) y) where
   module _ (p v : ℕ) (hp : p < g.points) (hv : v < variables_of g) (a : Alternative Bound ℤ) where
     pub over_upper : Contains (uppers g p v) a → worth bounds y a ≼ at bounds y (upper (variables_of g) p v)
     over_upper i = trans (worth bounds y a) (right bounds (bound_book g) y (upper (variables_of g) p v)) _

@@ -20,7 +20,7 @@ use Rattle.books.proofs.Rows.{row_inside}
 use Rattle.strategy_theory.specs.Theory.{Below}
 use Rattle.language_theory.specs.Graphs.{Graph}
 use Rattle.language_theory.specs.declared.Edge.{Edge}
-use Rattle.script_equations_theory.specs.Fitting.{Fits}
+use Rattle.language_theory.specs.WellFormed.{WellFormed}
 use Rattle.script_equations_theory.specs.Bounds.{upper, lower, upper_of, lower_of, variables_of, uppers, lowers, bound_unknown, bound_book}
 use Rattle.script_equations_theory.proofs.Lists.{by_eq, all_incoming, best_least, nth_contains}
 use Rattle.script_equations_theory.proofs.Places.{point_of, none_of, bound_count, book_long, upper_below, lower_below}
@@ -69,7 +69,7 @@ module _ (g : Graph) (good : ℕ → Bool) (y : List Bound) where
     pub lower_not : at bounds without (lower (variables_of g) p v) ≡ Least
     lower_not = without_at (lower (variables_of g) p v) (lower_below g p v hp hv) ∙ kept_not (lower (variables_of g) p v) (omega arith)
 
-  module _ (fits : Fits g) (first : good 0 ≡ true) (carries : (e : Edge) → Contains g.edges e → good e.target ≡ false → Blocked (variables_of g) without e.source e.action) where
+  module _ (fits : WellFormed g) (first : good 0 ≡ true) (carries : (e : Edge) → Contains g.edges e → good e.target ≡ false → Blocked (variables_of g) without e.source e.action) where
     -- the alternatives of the unknowns of a point that is not good are least
     module _ (p v : ℕ) (hv : v < variables_of g) (f : good p ≡ false) (a : Alternative Bound ℤ) where
       not_first : p ≡ 0 → ⊥

@@ -10,9 +10,9 @@ use Rattle.books.specs.Books.{at, worth, Solution, HoldsUp}
 use Rattle.books.specs.Forms.{constant, WellAlternative}
 use Rattle.books.specs.declared.Alternative.{Alternative}
 use Rattle.strategy_theory.specs.Theory.{Below}
-use Rattle.language_theory.specs.Graphs.{Graph}
+use Rattle.language_theory.specs.Graphs.{Graph, range}
 use Rattle.language_theory.specs.declared.Edge.{Edge}
-use Rattle.script_equations_theory.specs.Fitting.{range, EdgeFits, Fits}
+use Rattle.language_theory.specs.WellFormed.{EdgeFits, WellFormed}
 use Rattle.script_equations_theory.specs.Bounds.{upper, lower, upper_of, lower_of, variables_of, bound_book}
 use Rattle.script_equations_theory.proofs.Lists.{contains_first}
 use Rattle.script_equations_theory.proofs.Places.{bound_count}
@@ -60,7 +60,7 @@ module _ (g : Graph) (y : List Bound) where
       let r = interval_of (at bounds y (upper (variables_of g) p v)) (at bounds y (lower (variables_of g) p v)) h in
       record { i = r.i; there = r.there; stands = r.stands; sum = sum_meets (added (at bounds y (upper (variables_of g) p v)) (at bounds y (lower (variables_of g) p v))) h }
 
-  module _ (fits : Fits g) (sol : Solution bounds (bound_book g) y) where
+  module _ (fits : WellFormed g) (sol : Solution bounds (bound_book g) y) where
     up : HoldsUp bounds (bound_book g) y
     up = solution_holds g y sol
 
@@ -111,5 +111,5 @@ module _ (g : Graph) (y : List Bound) where
           (λ (e : good p ≡ true). inl (λ v h. reached_at p v (all_out (meets p) (variables_of g) e v h)))
           (λ (e : good p ≡ false). inr (unreached_at e)) (cases_Bool (good p))
 
-pub paired : (g : Graph) → Fits g → (y : List Bound) → Solution bounds (bound_book g) y → ((z : List Bound) → HoldsUp bounds (bound_book g) z → Below bounds y z) → Paired g y
+pub paired : (g : Graph) → WellFormed g → (y : List Bound) → Solution bounds (bound_book g) y → ((z : List Bound) → HoldsUp bounds (bound_book g) z → Below bounds y z) → Paired g y
 paired g fits y sol least p hp = paired_at g y fits sol least p hp

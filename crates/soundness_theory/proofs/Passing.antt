@@ -14,9 +14,13 @@ use Rattle.books.specs.declared.Terms.{Terms}
 use Rattle.books.specs.declared.Terms.TheVariants.{One, Two}
 use Rattle.books.specs.declared.Alternative.{Alternative}
 use Rattle.language_theory.specs.declared.Action.{Action}
-use Rattle.language_theory.specs.declared.Action.TheVariants.{Skip, Any, Read, Shift, Negate, AtMost, AtLeast, Before}
-use Rattle.script_equations_theory.specs.Fitting.{ActionFits}
-use Rattle.script_equations_theory.specs.Bounds.{under_test, as_is, copied, upper, lower, reached, given, low_enough, high_enough, apart_enough, upper_of, lower_of}
+use Rattle.language_theory.specs.declared.Action.TheVariants.{Skip, Assign, Assume}
+use Rattle.language_theory.specs.declared.Guard.{Guard}
+use Rattle.language_theory.specs.declared.Guard.TheVariants.{AtMost, AtLeast, Difference}
+use Rattle.language_theory.specs.declared.Value.{Value}
+use Rattle.language_theory.specs.declared.Value.TheVariants.{AnyOf, TableEntry, Sum, Negation}
+use Rattle.language_theory.specs.WellFormed.{ValueFits, GuardFits, ActionFits}
+use Rattle.script_equations_theory.specs.Bounds.{under_test, as_is, copied, upper, lower, reached, given, limited, can_hold, upper_assigned, upper_assumed, upper_of, lower_assigned, lower_assumed, lower_of}
 use Rattle.script_equations_theory.proofs.Lists.{by_eq}
 use Rattle.soundness_theory.proofs.Meeting.{Meets, meets_moved, meets_swap, meets_smaller, meets_smaller', range_meets, at_most_meets, at_least_meets, before_meets}
 
@@ -58,25 +62,16 @@ module _ (n : ℕ) (y : List Bound) (q : ℕ) where
   when_false : (t : Test Bound) (a b : Terms Bound ℤ) → holds bounds y t ≡ false → Neither (under_test t a) (under_test t b)
   when_false t a b e = (ap (λ (c : Bool). cond c (terms bounds y a) Least) e, ap (λ (c : Bool). cond c (terms bounds y b) Least) e)
 
-  by_test : (a : Action) (t : Test Bound) → (holds bounds y t ≡ true → Passes a) → (holds bounds y t ≡ false → Blocked a) → Passes a ⊎ Blocked a
-  by_test a t f g = ⊎_elim (λ e. inl (f e)) (λ e. inr (g e)) (cases_Bool (holds bounds y t))
-
   -- U and L of v where a guard limits U of i, or L
   abbrev limited_upper : ℕ → ℕ → Term Bound ℤ → Terms Bound ℤ
-  limited_upper v i r = cond (eqb v i) (Two (as_is (upper n q v)) r) (One (as_is (upper n q v)))
+  limited_upper v i r = limited (eqb v i) (upper n q v) r
 
   abbrev limited_lower : ℕ → ℕ → Term Bound ℤ → Terms Bound ℤ
-  limited_lower v i r = cond (eqb v i) (Two (as_is (lower n q v)) r) (One (as_is (lower n q v)))
+  limited_lower v i r = limited (eqb v i) (lower n q v) r
 
   -- a guard whose test fails
-  at_most_blocked : (i : ℕ) (c : ℤ) → holds bounds y (low_enough n q i c) ≡ false → Blocked (AtMost i c)
-  at_most_blocked i c e v hv = when_false (low_enough n q i c) (limited_upper v i (Constant (Whole c))) (One (as_is (lower n q v))) e
-
-  at_least_blocked : (i : ℕ) (c : ℤ) → holds bounds y (high_enough n q i c) ≡ false → Blocked (AtLeast i c)
-  at_least_blocked i c e v hv = when_false (high_enough n q i c) (One (as_is (upper n q v))) (limited_lower v i (Constant (Whole (neg_ℤ c)))) e
-
-  before_blocked : (i k : ℕ) (d : ℤ) → holds bounds y (apart_enough n q i k d) ≡ false → Blocked (Before i k d)
-  before_blocked i k d e v hv = when_false (apart_enough n q i k d) (limited_upper v i (Shifted (upper n q k) d)) (limited_lower v k (Shifted (lower n q i) d)) e
+  guard_blocked : (g : Guard) → holds bounds y (can_hold n q g) ≡ false → Blocked (Assume g)
+  guard_blocked g e v hv = when_false (can_hold n q g) (upper_assumed n q v g) (lower_assumed n q v g) e
 
   module _ (good : (v : ℕ) → v < n → Meets (U v) (L v)) where
     copies : (v : ℕ) → v < n → Both (copied (upper n q v)) (copied (lower n q v))
@@ -112,21 +107,26 @@ module _ (n : ℕ) (y : List Bound) (q : ℕ) where
         apart : eqb v k ≡ true → eqb v i ≡ false
         apart e = ⊎_elim (λ (f : eqb v i ≡ true). absurd (ne (sym (eqb-true v i f) ∙ eqb-true v k e))) (λ f. f) (cases_Bool (eqb v i))
 
+    -- what is given to a variable, and where a guard's test holds what it leaves
+    value_passes : (k : ℕ) → k < n → (x : Value) → ValueFits n x → Both (upper_assigned n q k x) (lower_assigned n q k x)
+    value_passes k h (AnyOf r s) f = gives k r.low r.high h f.rises
+    value_passes k h (TableEntry i r) f = gives k r.low r.high h f.1.rises
+    value_passes k h (Sum i c) f = meets_moved (U i) (L i) c (good i f.0)
+    value_passes k h (Negation i) f = meets_swap (moved (U i) (pos 0)) (moved (L i) (pos 0)) (copies i f)
+
+    guard_passes : (g : Guard) → GuardFits n g → holds bounds y (can_hold n q g) ≡ true → (v : ℕ) → v < n → Meets (terms bounds y (upper_assumed n q v g)) (terms bounds y (lower_assumed n q v g))
+    guard_passes (AtMost i c) f e = limits_upper i (Constant (Whole c)) (at_most_meets c (L i) e)
+    guard_passes (AtLeast i c) f e = limits_lower i (Constant (Whole (neg_ℤ c))) (at_least_meets c (U i) e)
+    guard_passes (Difference i k d) f e =
+        let h = before_meets (U k) (L i) d e in
+        limits_one i k f.2 (Shifted (upper n q k) d) (Shifted (lower n q i) d) h.0 h.1
+
     -- from a point where all pairs meet
     pub passes : (a : Action) → ActionFits n a → Passes a ⊎ Blocked a
     passes Skip f = inl copies
-    passes (Any k r s) f = inl (sets k (given n q k r.high) (given n q k (neg_ℤ r.low)) (gives k r.low r.high f.0 f.1.rises))
-    passes (Read k i r) f = inl (sets k (given n q k r.high) (given n q k (neg_ℤ r.low)) (gives k r.low r.high f.0 f.2.rises))
-    passes (Shift k i c) f = inl (sets k (shifted (upper n q i) c) (shifted (lower n q i) (neg_ℤ c)) (meets_moved (U i) (L i) c (good i f.1)))
-    passes (Negate k i) f = inl (sets k (copied (lower n q i)) (copied (upper n q i)) (meets_swap (moved (U i) (pos 0)) (moved (L i) (pos 0)) (copies i f.1)))
-    passes (AtMost i c) f = by_test (AtMost i c) (low_enough n q i c)
-        (λ e v hv. when_true (low_enough n q i c) (limited_upper v i (Constant (Whole c))) (One (as_is (lower n q v))) e (limits_upper i (Constant (Whole c)) (at_most_meets c (L i) e) v hv)) (at_most_blocked i c)
-    passes (AtLeast i c) f = by_test (AtLeast i c) (high_enough n q i c)
-        (λ e v hv. when_true (high_enough n q i c) (One (as_is (upper n q v))) (limited_lower v i (Constant (Whole (neg_ℤ c)))) e (limits_lower i (Constant (Whole (neg_ℤ c))) (at_least_meets c (U i) e) v hv)) (at_least_blocked i c)
-    passes (Before i k d) f = by_test (Before i k d) (apart_enough n q i k d)
-        (λ e v hv. let h = before_meets (U k) (L i) d e in
-        when_true (apart_enough n q i k d) (limited_upper v i (Shifted (upper n q k) d)) (limited_lower v k (Shifted (lower n q i) d)) e
-        (limits_one i k f.2 (Shifted (upper n q k) d) (Shifted (lower n q i) d) h.0 h.1 v hv)) (before_blocked i k d)
+    passes (Assign k x) f = inl (sets k (upper_assigned n q k x) (lower_assigned n q k x) (value_passes k f.0 x f.1))
+    passes (Assume g) f = ⊎_elim (λ e. inl (λ v hv. when_true (can_hold n q g) (upper_assumed n q v g) (lower_assumed n q v g) e (guard_passes g f e v hv))) (λ e. inr (guard_blocked g e))
+        (cases_Bool (holds bounds y (can_hold n q g)))
 
   module _ (ul : (v : ℕ) → v < n → U v ≡ Least) (ll : (v : ℕ) → v < n → L v ≡ Least) where
     low_u : (i : ℕ) (c : ℤ) → i < n → moved (U i) c ≡ Least
@@ -141,13 +141,19 @@ module _ (n : ℕ) (y : List Bound) (q : ℕ) where
     gives_none : (k : ℕ) (a b : ℤ) → k < n → Neither (given n q k b) (given n q k a)
     gives_none k a b h = when_false (reached n q k) (One (Constant (Whole b))) (One (Constant (Whole a))) (ap (λ (x : Bound). reaches (added x (L k)) (Whole (pos 0))) (ul k h))
 
+    value_blocked : (k : ℕ) → k < n → (x : Value) → ValueFits n x → Neither (upper_assigned n q k x) (lower_assigned n q k x)
+    value_blocked k h (AnyOf r s) f = gives_none k (neg_ℤ r.low) r.high h
+    value_blocked k h (TableEntry i r) f = gives_none k (neg_ℤ r.low) r.high h
+    value_blocked k h (Sum i c) f = (low_u i c f.0, low_l i (neg_ℤ c) f.0)
+    value_blocked k h (Negation i) f = (low_l i (pos 0) f, low_u i (pos 0) f)
+
+    guard_fails : (g : Guard) → GuardFits n g → holds bounds y (can_hold n q g) ≡ false
+    guard_fails (AtMost i c) f = ap (λ (x : Bound). under (Whole (neg_ℤ c)) x) (ll i f.0)
+    guard_fails (AtLeast i c) f = ap (λ (x : Bound). under (Whole c) x) (ul i f.0)
+    guard_fails (Difference i k d) f = ap (λ (x : Bound). reaches (added x (U k)) (Whole (neg_ℤ d))) (ll i f.0)
+
     -- from a point where all are least
     pub blocked : (a : Action) → ActionFits n a → Blocked a
     blocked Skip f = λ v hv. (low_u v (pos 0) hv, low_l v (pos 0) hv)
-    blocked (Any k r s) f = leaves k (given n q k r.high) (given n q k (neg_ℤ r.low)) (gives_none k (neg_ℤ r.low) r.high f.0)
-    blocked (Read k i r) f = leaves k (given n q k r.high) (given n q k (neg_ℤ r.low)) (gives_none k (neg_ℤ r.low) r.high f.0)
-    blocked (Shift k i c) f = leaves k (shifted (upper n q i) c) (shifted (lower n q i) (neg_ℤ c)) (low_u i c f.1, low_l i (neg_ℤ c) f.1)
-    blocked (Negate k i) f = leaves k (copied (lower n q i)) (copied (upper n q i)) (low_l i (pos 0) f.1, low_u i (pos 0) f.1)
-    blocked (AtMost i c) f = at_most_blocked i c (ap (λ (x : Bound). under (Whole (neg_ℤ c)) x) (ll i f.0))
-    blocked (AtLeast i c) f = at_least_blocked i c (ap (λ (x : Bound). under (Whole c) x) (ul i f.0))
-    blocked (Before i k d) f = before_blocked i k d (ap (λ (x : Bound). reaches (added x (U k)) (Whole (neg_ℤ d))) (ll i f.0))
+    blocked (Assign k x) f = leaves k (upper_assigned n q k x) (lower_assigned n q k x) (value_blocked k f.0 x f.1)
+    blocked (Assume g) f = guard_blocked g (guard_fails g f)

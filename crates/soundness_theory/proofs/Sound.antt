@@ -9,9 +9,9 @@ use Rattle.kinds.specs.declared.bound.Bound.TheVariants.{Least, Whole, Greatest}
 use Rattle.books.specs.Books.{at, Solution, HoldsUp}
 use Rattle.books.specs.Forms.{constant}
 use Rattle.books.proofs.Order.{le_of_eq}
-use Rattle.language_theory.specs.Graphs.{Graph}
+use Rattle.language_theory.specs.Graphs.{Graph, range}
 use Rattle.language_theory.specs.declared.Lookup.{Lookup}
-use Rattle.script_equations_theory.specs.Fitting.{range, Fits}
+use Rattle.language_theory.specs.WellFormed.{WellFormed}
 use Rattle.script_equations_theory.specs.Bounds.{upper, lower, variables_of, bound_book}
 use Rattle.script_equations_theory.proofs.Lists.{contains_first}
 use Rattle.soundness_theory.specs.Runs.{of, size_of, Run, OutsideRead}
@@ -41,7 +41,7 @@ there_is : (o : Option (Bound × Bound)) (a : ℤ) → LiesIn o a → (i : Bound
 there_is None a h = absurd h
 there_is (Some i) a h = (i, refl, h.0, h.1)
 
-module _ (g : Graph) (fits : Fits g) (y : List Bound) (hu : HoldsUp bounds (bound_book g) y) where
+module _ (g : Graph) (fits : WellFormed g) (y : List Bound) (hu : HoldsUp bounds (bound_book g) y) where
   -- the values of a run lie within the bounds of its point
   bounded : {p : ℕ} {x : List ℤ} → Run g p x → Bounded (variables_of g) y p x
   bounded (begins {x = x} e w) = record {

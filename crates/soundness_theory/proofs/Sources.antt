@@ -10,20 +10,22 @@ use Rattle.books.specs.Books.{at, worth, best, right, HoldsUp}
 use Rattle.books.specs.Forms.{constant}
 use Rattle.books.specs.declared.Alternative.{Alternative}
 use Rattle.books.proofs.Order.{Le, le_of_eq}
-use Rattle.language_theory.specs.Graphs.{Graph}
+use Rattle.language_theory.specs.Graphs.{Graph, incoming}
+use Rattle.language_theory.specs.WellFormed.{ValueFits, ActionFits, WellFormed}
 use Rattle.language_theory.specs.declared.Source.{Source}
 use Rattle.language_theory.specs.declared.Source.TheVariants as source
 use Rattle.language_theory.specs.declared.Action.{Action}
-use Rattle.language_theory.specs.declared.Action.TheVariants.{Skip, Any, Read, Shift, Negate, AtMost, AtLeast, Before}
+use Rattle.language_theory.specs.declared.Action.TheVariants.{Skip, Assign, Assume}
+use Rattle.language_theory.specs.declared.Value.{Value}
+use Rattle.language_theory.specs.declared.Value.TheVariants.{AnyOf, TableEntry, Sum, Negation}
 use Rattle.language_theory.specs.declared.Edge.{Edge}
-use Rattle.script_equations_theory.specs.Fitting.{incoming, ActionFits, Fits}
 use Rattle.script_equations_theory.specs.Bounds.{variables_of}
-use Rattle.script_equations_theory.specs.Grades.{grade_at, grade_copied, grade_from, grade_of, grades_at, grade_book}
+use Rattle.script_equations_theory.specs.Grades.{grade_at, grade_copied, source_grade, grade_assigned, grade_of, grades_at, grade_book}
 use Rattle.script_equations_theory.proofs.Lists.{by_eq, contains_first, in_incoming, in_best}
 use Rattle.script_equations_theory.proofs.Places.{grade_book_long, grade_below, grade_stands}
 use Rattle.soundness_theory.specs.Runs.{Run}
 use Rattle.soundness_theory.specs.Runs.Run.{begins, goes}
-use Rattle.soundness_theory.specs.Sources.{source_grade, from, traced, Traced, run_of, GradesTell}
+use Rattle.soundness_theory.specs.Sources.{from, value_source, traced, Traced, run_of, GradesTell}
 use Rattle.soundness_theory.specs.Sources.Traced.{starts, follows}
 
 -- the order of grades
@@ -36,13 +38,8 @@ tracked : (g : Graph) (p : ℕ) (x : List ℤ) (r : Run g p x) → (s : List Gra
 tracked g _ _ (begins l w) = (replicate (length g.variables) Written, starts l w, refl)
 tracked g _ _ (goes {x' = x'} e r i d) = let h = tracked g e.source _ r in (traced e.action h.0, follows e h.1 i d, ap (λ (q : Run g e.source _). goes {x' = x'} e q i d) h.2)
 
--- the grade of a source is that of the equations, and is at least Written
-same_grade : (c : Source) → source_grade c ≡ grade_from c
-same_grade source.Written = refl
-same_grade source.Sensed = refl
-same_grade source.Heard = refl
-
-source_given : (c : Source) → Written ≼ source_grade c
+-- the grade of a source is at least Written
+pub source_given : (c : Source) → Written ≼ source_grade c
 source_given source.Written = refl
 source_given source.Sensed = refl
 source_given source.Heard = refl
@@ -66,15 +63,16 @@ module _ (n : ℕ) (s : List Grade) (w : Given n s) where
   }
 
   -- behind an edge
+  value_given : (x : Value) → ValueFits n x → Written ≼ value_source x s
+  value_given (AnyOf r c) f = source_given c
+  value_given (TableEntry i r) f = w.each i f.0
+  value_given (Sum i c) f = w.each i f.0
+  value_given (Negation i) f = w.each i f
+
   given_behind : (a : Action) → ActionFits n a → Given n (traced a s)
   given_behind Skip f = w
-  given_behind (Any k r c) f = given_set k (source_grade c) f.0 (source_given c)
-  given_behind (Read k i r) f = given_set k (from s i) f.0 (w.each i f.1)
-  given_behind (Shift k i c) f = given_set k (from s i) f.0 (w.each i f.1)
-  given_behind (Negate k i) f = given_set k (from s i) f.0 (w.each i f.1)
-  given_behind (AtMost i c) f = w
-  given_behind (AtLeast i c) f = w
-  given_behind (Before i k d) f = w
+  given_behind (Assign k x) f = given_set k (value_source x s) f.0 (value_given x f.1)
+  given_behind (Assume g) f = w
 
   -- where the grades z at the point p are at least the sources, each alternative of an edge from there is at least the source behind it
   module _ (z : List Grade) (p : ℕ) (u : (v : ℕ) → v < n → from s v ≼ at grades z (grade_at n p v)) where
@@ -86,18 +84,18 @@ module _ (n : ℕ) (s : List Grade) (w : Given n s) where
     reached_at : (v : ℕ) → v < n → Written ≼ at grades z (grade_at n p v)
     reached_at v h = grades_laws.transitive Written (from s v) (at grades z (grade_at n p v)) (w.each v h) (u v h)
 
+    under_value : (k : ℕ) → k < n → (x : Value) → ValueFits n x → value_source x s ≼ worth grades z (grade_assigned n p k x)
+    under_value k h (AnyOf r c) f = subst (λ (b : Bool). source_grade c ≼ cond b (source_grade c) Unreached) (sym (reached_at k h)) (grades_laws.reflexive (source_grade c))
+    under_value k h (TableEntry i r) f = u i f.0
+    under_value k h (Sum i c) f = u i f.0
+    under_value k h (Negation i) f = u i f
+
     under_behind : (a : Action) → ActionFits n a → (v : ℕ) → v < n → from (traced a s) v ≼ worth grades z (grade_of n p v a)
     under_behind Skip f v hv = u v hv
-    under_behind (Any k r c) f v hv = under_set k v (source_grade c) _ f.0 hv
-        (subst (λ (b : Bool). source_grade c ≼ cond b (grade_from c) Unreached) (sym (reached_at k f.0)) (le_of_eq grades grades_laws (same_grade c)))
-    under_behind (Read k i r) f v hv = under_set k v (from s i) (grade_copied (grade_at n p i)) f.0 hv (u i f.1)
-    under_behind (Shift k i c) f v hv = under_set k v (from s i) (grade_copied (grade_at n p i)) f.0 hv (u i f.1)
-    under_behind (Negate k i) f v hv = under_set k v (from s i) (grade_copied (grade_at n p i)) f.0 hv (u i f.1)
-    under_behind (AtMost i c) f v hv = u v hv
-    under_behind (AtLeast i c) f v hv = u v hv
-    under_behind (Before i k d) f v hv = u v hv
+    under_behind (Assign k x) f v hv = under_set k v (value_source x s) (grade_assigned n p k x) f.0 hv (under_value k f.0 x f.1)
+    under_behind (Assume g) f v hv = u v hv
 
-module _ (g : Graph) (fits : Fits g) where
+module _ (g : Graph) (fits : WellFormed g) where
   given : {p : ℕ} {x : List ℤ} {s : List Grade} → Traced g p x s → Given (variables_of g) s
   given (starts l w) = record {
     long = length-replicate (variables_of g) Written;
@@ -127,7 +125,7 @@ module _ (g : Graph) (fits : Fits g) where
     under (follows {s = s} e t i d) v h = grades_laws.transitive (from (traced e.action s) v) (worth grades z (grade_of (variables_of g) e.source v e.action)) (at grades z (grade_at (variables_of g) e.target v))
         (under_behind (variables_of g) s (given t) z e.source (under t) e.action (fits.edges e i).action v h) (over_edge e i v h)
 
-pub grades_tell : (g : Graph) → Fits g → GradesTell g
+pub grades_tell : (g : Graph) → WellFormed g → GradesTell g
 grades_tell g fits = record {
   every = tracked g;
   each = λ p x s t. (given g fits t).each;

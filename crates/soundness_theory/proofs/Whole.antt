@@ -8,7 +8,7 @@ use Rattle.strategy_theory.specs.Lives.Life.{set_up, after}
 use Rattle.strategy_theory.specs.Promises.{Promises}
 use Rattle.strategy_theory.proofs.Keeping.{promised}
 use Rattle.language_theory.specs.Graphs.{Graph}
-use Rattle.script_equations_theory.specs.Fitting.{Fits}
+use Rattle.language_theory.specs.WellFormed.{WellFormed}
 use Rattle.script_equations_theory.specs.Bounds.{bound_book}
 use Rattle.script_equations_theory.proofs.Forms.{bound_well}
 use Rattle.soundness_theory.specs.Kept.{ScriptPromises, EachState}
@@ -17,7 +17,7 @@ use Rattle.soundness_theory.proofs.Pairs.{paired}
 use Rattle.soundness_theory.proofs.Listing.{listed}
 use Rattle.soundness_theory.proofs.Sizes.{sized}
 
-module _ (g : Graph) (fits : Fits g) {Q A : Type 0} (ask : State Bound → Q → A) where
+module _ (g : Graph) (fits : WellFormed g) {Q A : Type 0} (ask : State Bound → Q → A) where
   pub script_promises : {h : List (Event Q Bound A)} {ss : List (List (Option ℕ))} {s : State Bound} → Life bounds (bound_book g) ask h ss s → ScriptPromises g s
   script_promises {h} {ss} {s} life = record {
     sound = λ q. sound g fits s.values (solution_holds g s.values (p.least q).solves);

@@ -1,12 +1,15 @@
 -- Runs of a script: states, and how a run goes on from one to the next along the edges of the graph. Nothing here speaks of equations.
-use Rattle.std.specs.Prelude.{◌≡◌, ℕ, ◌<◌, true, List, length, ℤ, pos, neg_ℤ, ◌+ℤ◌, ◌-ℤ◌, Contains, int_le, slice_index_or, slice_set}
-use Rattle.language_theory.specs.Graphs.{Graph, no_table}
+use Rattle.std.specs.Prelude.{◌≡◌, ℕ, ◌<◌, Bool, true, List, length, ℤ, pos, neg_ℤ, ◌+ℤ◌, ◌-ℤ◌, Contains, int_le, slice_index_or, slice_set}
+use Rattle.language_theory.specs.Graphs.{Graph, no_table, range}
 use Rattle.language_theory.specs.declared.Range.{Range}
 use Rattle.language_theory.specs.declared.Action.{Action}
-use Rattle.language_theory.specs.declared.Action.TheVariants.{Skip, Any, Read, Shift, Negate, AtMost, AtLeast, Before}
+use Rattle.language_theory.specs.declared.Action.TheVariants.{Skip, Assign, Assume}
+use Rattle.language_theory.specs.declared.Guard.{Guard}
+use Rattle.language_theory.specs.declared.Guard.TheVariants.{AtMost, AtLeast, Difference}
+use Rattle.language_theory.specs.declared.Value.{Value}
+use Rattle.language_theory.specs.declared.Value.TheVariants.{AnyOf, TableEntry, Sum, Negation}
 use Rattle.language_theory.specs.declared.Edge.{Edge}
 use Rattle.language_theory.specs.declared.Lookup.{Lookup}
-use Rattle.script_equations_theory.specs.Fitting.{range}
 
 -- the value of the variable v, where x has the values of all variables; the points and edges of a script name no other
 abbrev pub of : List ℤ → ℕ → ℤ
@@ -17,16 +20,24 @@ pub record InRange (r : Range) (z : ℤ) : Type 0 where
   pub low : int_le r.low z ≡ true
   pub high : int_le z r.high ≡ true
 
+-- z can be what a variable is set to, where x has the values of all variables
+abbrev pub Gives : Value → List ℤ → ℤ → Type 0
+Gives (AnyOf r s) x z = InRange r z
+Gives (TableEntry i r) x z = InRange r z
+Gives (Sum i c) x z = z ≡ of x i +ℤ c
+Gives (Negation i) x z = z ≡ neg_ℤ (of x i)
+
+-- whether a guard holds of the values
+abbrev pub guard_holds : Guard → List ℤ → Bool
+guard_holds (AtMost i c) x = int_le (of x i) c
+guard_holds (AtLeast i c) x = int_le c (of x i)
+guard_holds (Difference i k d) x = int_le (of x i) (of x k +ℤ d)
+
 -- the values x become x' along an edge with this action; a guard has to hold
 abbrev pub Acts : Action → List ℤ → List ℤ → Type 0
 Acts Skip x x' = x' ≡ x
-Acts (Any k r s) x x' = (z : ℤ) × InRange r z × (x' ≡ slice_set x k z)
-Acts (Read k i r) x x' = (z : ℤ) × InRange r z × (x' ≡ slice_set x k z)
-Acts (Shift k i c) x x' = x' ≡ slice_set x k (of x i +ℤ c)
-Acts (Negate k i) x x' = x' ≡ slice_set x k (neg_ℤ (of x i))
-Acts (AtMost i c) x x' = (int_le (of x i) c ≡ true) × (x' ≡ x)
-Acts (AtLeast i c) x x' = (int_le c (of x i) ≡ true) × (x' ≡ x)
-Acts (Before i k d) x x' = (int_le (of x i) (of x k +ℤ d) ≡ true) × (x' ≡ x)
+Acts (Assign k v) x x' = (z : ℤ) × Gives v x z × (x' ≡ slice_set x k z)
+Acts (Assume g) x x' = (guard_holds g x ≡ true) × (x' ≡ x)
 
 -- a run comes to the point with the values: it begins at point 0 within the declared ranges, and follows edges
 pub data Run (g : Graph) : ℕ → List ℤ → Type 0 where

@@ -4,38 +4,35 @@ use Rattle.kinds.specs.Values.{up_to, grades}
 use Rattle.kinds.specs.declared.grade.Grade.{Grade}
 use Rattle.kinds.specs.declared.grade.Grade.TheVariants as grade
 use Rattle.books.specs.Books.{at, HoldsUp}
-use Rattle.language_theory.specs.Graphs.{Graph}
+use Rattle.language_theory.specs.Graphs.{Graph, range}
 use Rattle.language_theory.specs.declared.Source.{Source}
 use Rattle.language_theory.specs.declared.Source.TheVariants as source
 use Rattle.language_theory.specs.declared.Action.{Action}
-use Rattle.language_theory.specs.declared.Action.TheVariants.{Skip, Any, Read, Shift, Negate, AtMost, AtLeast, Before}
+use Rattle.language_theory.specs.declared.Action.TheVariants.{Skip, Assign, Assume}
+use Rattle.language_theory.specs.declared.Value.{Value}
+use Rattle.language_theory.specs.declared.Value.TheVariants.{AnyOf, TableEntry, Sum, Negation}
 use Rattle.language_theory.specs.declared.Edge.{Edge}
-use Rattle.script_equations_theory.specs.Fitting.{range}
 use Rattle.script_equations_theory.specs.Bounds.{variables_of}
-use Rattle.script_equations_theory.specs.Grades.{grade_at, grade_book}
+use Rattle.script_equations_theory.specs.Grades.{source_grade, grade_at, grade_book}
 use Rattle.soundness_theory.specs.Runs.{of, InRange, Acts, Run}
 use Rattle.soundness_theory.specs.Runs.Run.{begins, goes}
-
--- the grade of a source
-abbrev pub source_grade : Source → Grade
-source_grade source.Written = grade.Written
-source_grade source.Sensed = grade.Sensed
-source_grade source.Heard = grade.Heard
 
 -- the grade of the source of v's value, where s has those of all variables; the edges of a script name no other
 abbrev pub from : List Grade → ℕ → Grade
 from s v = slice_index_or s v grade.Unreached
 
--- the sources behind an edge with this action: a value that is given has its own, what is made of i, and what is read of a table at i, has that of i
+-- the source of what a variable is set to: a value that is given has its own, what is made of i, and what is read of a table at i, has that of i
+abbrev pub value_source : Value → List Grade → Grade
+value_source (AnyOf r c) s = source_grade c
+value_source (TableEntry i r) s = from s i
+value_source (Sum i c) s = from s i
+value_source (Negation i) s = from s i
+
+-- the sources behind an edge with this action
 abbrev pub traced : Action → List Grade → List Grade
 traced Skip s = s
-traced (Any k r c) s = slice_set s k (source_grade c)
-traced (Read k i r) s = slice_set s k (from s i)
-traced (Shift k i c) s = slice_set s k (from s i)
-traced (Negate k i) s = slice_set s k (from s i)
-traced (AtMost i c) s = s
-traced (AtLeast i c) s = s
-traced (Before i k d) s = s
+traced (Assign k v) s = slice_set s k (value_source v s)
+traced (Assume g) s = s
 
 -- a run comes to the point with the values, and s has the sources of the values: at the beginning all are written in the script
 pub data Traced (g : Graph) : ℕ → List ℤ → List Grade → Type 0 where

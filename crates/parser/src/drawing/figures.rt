@@ -2,56 +2,48 @@
 ghost use Rattle.std.specs.Prelude.{◌≡◌, MatchResult};
 ghost use Rattle.base.specs.Reasons.{no_memory};
 ghost use Rattle.language_theory.specs.Readings.{joined_at};
-ghost use Rattle.parser.specs.Models.{vars_of, tabs_of, drawn_so, assigned};
+ghost use Rattle.parser.specs.Models.{drawn_so, assigned};
 ghost use Rattle.parser.specs.declared.side.Side.TheVariants.{Entry};
 
 use crate::drawing::Drawing;
-use crate::names::Names;
 use crate::side::{Reading, Side};
 use base::{Place, Refusal};
 use language_theory::{Action, Guard, Value};
 
 impl Drawing {
     // A table read: index at least 0, index at most size - 1, then any of the table's range.
-    fn look_up(
-        &mut self,
-        names: &Names,
-        place: Place,
-        k: usize,
-        reading: Reading,
-    ) -> Result<(), Refusal>
-        ensures { MatchResult result (λ _. drawn_so self.new ≡ assigned (vars_of names.now) (tabs_of names.now) place k (Entry reading) (drawn_so self.old)) (λ e. e ≡ no_memory) }
+    fn look_up(&mut self, place: Place, target: usize, reading: Reading) -> Result<(), Refusal>
+        ensures {
+            MatchResult result
+                (λ _. drawn_so self.new ≡ assigned place target (Entry reading) (drawn_so self.old))
+                (λ e. e ≡ no_memory)
+        }
     {
-        let (size, range) = names.shape(reading.table);
-        let index = reading.index;
-        let at_least = Guard::AtLeast {
-            variable: index,
-            limit: 0,
-        };
-        let at_most = Guard::AtMost {
-            variable: index,
-            limit: i64::from(size) - 1,
-        };
-        let value = Value::TableEntry { index, range };
+        let variable = reading.index;
+        let guard = Guard::AtLeast { variable, limit: 0 };
         self.note(reading)?;
-        self.onward(Action::Assume { guard: at_least }, place)?;
-        self.onward(Action::Assume { guard: at_most }, place)?;
-        self.onward(Action::Assign { target: k, value }, place)
+        self.onward(Action::Assume { guard }, place)?;
+        let limit = i64::from(reading.size) - 1;
+        let guard = Guard::AtMost { variable, limit };
+        self.onward(Action::Assume { guard }, place)?;
+        let value = Value::TableEntry {
+            index: variable,
+            range: reading.range,
+        };
+        self.onward(Action::Assign { target, value }, place)
     }
 
-    // The assignment of a right side to the variable k.
-    pub(crate) fn assign(
-        &mut self,
-        names: &Names,
-        place: Place,
-        k: usize,
-        right: Side,
-    ) -> Result<(), Refusal>
-        ensures { MatchResult result (λ _. drawn_so self.new ≡ assigned (vars_of names.now) (tabs_of names.now) place k right (drawn_so self.old)) (λ e. e ≡ no_memory) }
+    // The assignment of a right side to a variable.
+    pub(crate) fn assign(&mut self, place: Place, target: usize, right: Side) -> Result<(), Refusal>
+        ensures {
+            MatchResult result
+                (λ _. drawn_so self.new ≡ assigned place target right (drawn_so self.old))
+                (λ e. e ≡ no_memory)
+        }
     {
         match right {
-            Side::Value(value) => self.onward(Action::Assign { target: k, value }, place),
-            Side::Entry(reading) => self.look_up(names, place, k, reading),
+            Side::Value(value) => self.onward(Action::Assign { target, value }, place),
+            Side::Entry(reading) => self.look_up(place, target, reading),
         }
     }
 

@@ -1,6 +1,6 @@
 // What a graph tells.
-ghost use Rattle.std.specs.Prelude.{◌≡◌, [], if◌then◌else◌, nat_lt};
-ghost use Rattle.script_graph.specs.Grouping.{incoming as leading_to};
+ghost use Rattle.std.specs.Prelude.{◌≡◌, ◌<◌, ◌≤◌, MatchOption};
+ghost use Rattle.language_theory.specs.Graphs.{incoming as leading_to};
 
 use crate::graph::Graph;
 use language_theory::{Edge, Lookup};

@@ -7,7 +7,8 @@ use Rattle.language_theory.specs.Readings.{KnowsNegates}
 use Rattle.language_theory.proofs.Turning.{turns, turns_at}
 use Rattle.language_theory.proofs.Sides.{negative_number, negative_decides, negative_name, refuses_negative, refuses_negated}
 use Rattle.parser.specs.Models.{left}
-use Rattle.parser.specs.declared.side.Side.TheVariants.{Negated}
+use Rattle.parser.specs.declared.side.Side.TheVariants.{Value}
+use Rattle.language_theory.specs.declared.Value.TheVariants.{Negation}
 use Rattle.parser.proofs.Exits.{handed_on}
 use Rattle.parser.proofs.script.Script.read_negative.Goals as goal
 
@@ -26,7 +27,7 @@ returns-in_err-i c =
 pub returns-then-at_name : goal.returns-then-at_name
 returns-then-at_name c =
     let h = c.in_ok-i.ensures in
-    (negated c.in_ok-name.name.now, ap Negated h.1, (negative_name _ _ _ _ _ _ c.in_ok-name.ensures h.0, refl))
+    (negated c.in_ok-name.name.now, ap (λ (j : _). Value (Negation j)) h.1, (negative_name _ _ _ _ _ _ c.in_ok-name.ensures h.0, refl))
 
 pub returns-in_err-n : goal.returns-in_err-n
 returns-in_err-n c =
@@ -37,4 +38,4 @@ returns-in_err-n c =
 pub returns : goal.returns
 returns c =
     let z : to_z w64 (of_z w64 c.negative.result) ≡ neg_ℤ (pos c.in_ok-n.n) = to_z-of_z w64 c.negative.result (search rules) ∙ c.negative.ensures in
-    (constant (to_z w64 (of_z w64 c.negative.result)), refl, (negative_number _ _ c.in_ok-n.n _ _ _ _ z c.in_ok-n.ensures, refl))
+    (constant (to_z w64 (of_z w64 c.negative.result)), c.constant.ensures, (negative_number _ _ c.in_ok-n.n _ _ _ _ z c.in_ok-n.ensures, refl))

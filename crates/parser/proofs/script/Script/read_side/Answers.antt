@@ -24,7 +24,7 @@ returns-in_err-read_range c =
 pub returns-then-accept : goal.returns-then-accept
 returns-then-accept c =
     let m = c.if-accept.ensures.passed in
-    (any Heard c.in_ok-read_range.field-0, refl, (side_any _ _ heard m.1 _ _ c.in_ok-read_range.ensures, refl))
+    (any Heard c.in_ok-read_range.field-0, c.any_of.ensures, (side_any _ _ heard m.1 _ _ c.in_ok-read_range.ensures, refl))
 
 pub returns-in_err-read_range-2 : goal.returns-in_err-read_range-2
 returns-in_err-read_range-2 c =
@@ -35,7 +35,7 @@ returns-in_err-read_range-2 c =
 pub returns-then-accept-2 : goal.returns-then-accept-2
 returns-then-accept-2 c =
     let m = sym c.if-accept.ensures.stays ∙ c.if-accept-2.ensures.passed.1 in
-    (any Sensed c.in_ok-read_range-2.field-0, refl, (side_any _ _ sensed m _ _ c.in_ok-read_range-2.ensures, refl))
+    (any Sensed c.in_ok-read_range-2.field-0, c.any_of.ensures, (side_any _ _ sensed m _ _ c.in_ok-read_range-2.ensures, refl))
 
 pub returns-then-accept-3 : goal.returns-then-accept-3
 returns-then-accept-3 c =
@@ -58,4 +58,4 @@ pub returns : goal.returns
 returns c =
     let z : to_z w64 (of_z w64 c.from.result) ≡ pos c.in_ok-n.n = to_z-of_z w64 c.from.result (search rules) ∙ c.from.ensures in
     let d = c.if-accept-3.ensures.stays ∙ c.if-accept-2.ensures.stays ∙ c.if-accept.ensures.stays in
-    (constant (to_z w64 (of_z w64 c.from.result)), refl, (side_number _ _ c.in_ok-n.n _ _ _ _ z (sym d ∙ c.in_ok-n.ensures), refl))
+    (constant (to_z w64 (of_z w64 c.from.result)), c.constant.ensures, (side_number _ _ c.in_ok-n.n _ _ _ _ z (sym d ∙ c.in_ok-n.ensures), refl))

@@ -1,4 +1,4 @@
-use Rattle.std.proofs.Common.{ap, false, ◌∷◌, ◌∙◌}
+use Rattle.std.proofs.Common.{false, ◌∷◌, ◌∙◌}
 use Rattle.std.proofs.lemmas.Result.{MatchResult-weaker}
 use Rattle.base.specs.declared.Reason.TheVariants.{Undeclared}
 use Rattle.lexer.specs.declared.Mark.TheVariants.{Becomes, Semicolon}
@@ -8,8 +8,6 @@ use Rattle.language_theory.specs.Readings.{Starts, assigning}
 use Rattle.language_theory.specs.Readings.TurnsBack.{by_want}
 use Rattle.language_theory.proofs.Turning.{turns, turns_at}
 use Rattle.language_theory.proofs.Bodies.{target_decides, refuses_becomes, refuses_side, refuses_semicolon, stated_assign}
-use Rattle.parser.specs.Models.{vars_of, tabs_of, drawn_so, assigned}
-use Rattle.parser.specs.declared.names.Names.{Names}
 use Rattle.parser.proofs.Exits.{handed_on}
 use Rattle.parser.proofs.Siding.{assigned_as}
 use Rattle.parser.proofs.statements.Scribe.read_assignment.Goals as goal
@@ -51,8 +49,7 @@ returns c =
     MatchResult-weaker c.assign.result c.assign.ensures
     (λ _ e l. (
       stated_assign _ _ c.in_ok-name.ensures h.0 c.in_ok-mark.ensures a.2.0 _ _ _ _ c.in_ok-mark-2.ensures
-          (e ∙ ap (λ (m : Names). assigned (vars_of m) (tabs_of m) c.in_ok-name.place c.in_ok-k.k c.in_ok-right.right (drawn_so c.args.self.now.drawing)) a.2.1 ∙
-          assigned_as _ _ _ _ _ c.in_ok-right.right a.0 _ h.1 a.1),
+          (e ∙ assigned_as _ _ _ _ _ c.in_ok-right.right a.0 _ h.1 a.1),
       a.2.1,
     ))
     (λ _ e l. by_want e)

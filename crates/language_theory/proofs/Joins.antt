@@ -5,12 +5,11 @@ use Rattle.std.proofs.lemmas.List.Elements.{filter-append}
 use Rattle.language_theory.specs.Grammar.{Side, Statements, Tree}
 use Rattle.language_theory.specs.Grammar.Side.{constant, shifted, negated, any, reading}
 use Rattle.language_theory.specs.Grammar.Statements.{done, assign, choose, repeat}
-use Rattle.language_theory.specs.Graphs.{Variable, Table, variables, tables, var_number, Drawing, blank_sheet, fresh, back, stand, holds, fails, draw_assign, draw, graph}
+use Rattle.language_theory.specs.Graphs.{Variable, Table, variables, tables, var_number, Drawing, blank_sheet, fresh, back, stand, holds, fails, draw_assign, draw, graph, incoming}
 use Rattle.base.specs.declared.Place.{Place}
 use Rattle.language_theory.specs.declared.Action.{Action}
 use Rattle.language_theory.specs.declared.Action.TheVariants.{Skip}
 use Rattle.language_theory.specs.declared.Edge.{Edge}
-use Rattle.script_equations_theory.specs.Fitting.{incoming}
 
 -- how many edges lead to a point
 abbrev count : ℕ → List Edge → ℕ

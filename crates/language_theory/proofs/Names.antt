@@ -1,8 +1,24 @@
--- Declared names that differ have different numbers.
-use Rattle.std.proofs.Common.{◌≡◌, ℕ, suc, Bool, true, false, cond, ◌||◌, eqb, List, [], ◌∷◌, sym, refl, ◌∙◌, subst}
+-- The number of a declared name is below their count, and declared names that differ have different numbers.
+use Rattle.std.proofs.Common.{◌≡◌, ℕ, suc, ◌<◌, Bool, true, false, cond, ◌||◌, eqb, List, [], ◌∷◌, length, sym, refl, ap, ◌∙◌, subst, arith}
 use Rattle.std.proofs.lemmas.Bool.{false≢true, and_parts, and_from, eqb-true, eq-eqb}
 use Rattle.lexer.specs.Words.{same, among}
-use Rattle.language_theory.specs.Graphs.{number_of}
+use Rattle.language_theory.specs.Graphs.{Variable, Table, var_names, table_names, number_of}
+
+pub number_below : (n : List ℕ) (ms : List (List ℕ)) → among n ms ≡ true → number_of n ms < length ms
+number_below n [] h = absurd (false≢true h)
+number_below n (m ∷ ms) h = go (same n m) h (number_below n ms)
+  where
+    go : (b : Bool) → (b || among n ms) ≡ true → (among n ms ≡ true → number_of n ms < length ms) → cond b 0 (suc (number_of n ms)) < suc (length ms)
+    go true e ih = omega arith
+    go false e ih = let k = ih e in omega arith
+
+pub length_vars : (vs : List Variable) → length (var_names vs) ≡ length vs
+length_vars [] = refl
+length_vars (v ∷ vs) = ap suc (length_vars vs)
+
+pub length_tables : (ts : List Table) → length (table_names ts) ≡ length ts
+length_tables [] = refl
+length_tables (t ∷ ts) = ap suc (length_tables ts)
 
 same_equal : (n m : List ℕ) → same n m ≡ true → n ≡ m
 same_equal [] [] h = refl
