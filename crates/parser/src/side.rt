@@ -6,9 +6,7 @@ ghost use Rattle.language_theory.specs.Expected.{one};
 ghost use Rattle.language_theory.specs.Expected.Expect.{just, span, right, behind_minus};
 ghost use Rattle.language_theory.specs.Expected.Terminal.{any_name};
 ghost use Rattle.language_theory.specs.Readings.{first_names, TurnsBack, Over, Quiet, KnowsNegates, is_span, is_right, is_negative, is_index};
-ghost use Rattle.language_theory.specs.declared.Value.TheVariants.{AnyOf, Sum};
 ghost use Rattle.parser.specs.Models.{left, fixed};
-ghost use Rattle.parser.specs.declared.side.Side.TheVariants.{Value};
 ghost use Rattle.parser.specs.Scripts.{Reads, Halts, BehindMark, variable_in, side_in};
 
 use crate::script::Script;
@@ -52,14 +50,14 @@ fn constant(number: i64) -> Side
 
 // Any number of a range.
 fn any_of(range: Range, source: Source) -> Side
-    ensures { result ≡ Value (AnyOf range source) }
+    ensures { result ≡ Side.Value (Value.AnyOf range source) }
 {
     Side::Value(Value::AnyOf { range, source })
 }
 
 // A variable and what is added to it.
 fn sum(variable: usize, constant: i64) -> Side
-    ensures { result ≡ Value (Sum variable constant) }
+    ensures { result ≡ Side.Value (Value.Sum variable constant) }
 {
     Side::Value(Value::Sum { variable, constant })
 }

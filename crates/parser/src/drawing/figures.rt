@@ -13,11 +13,9 @@ use language_theory::{Action, Guard, Value};
 impl Drawing {
     // A table read: index at least 0, index at most size - 1, then any of the table's range.
     fn look_up(&mut self, place: Place, target: usize, reading: Reading) -> Result<(), Refusal>
-        ensures {
-            MatchResult result
-                (λ _. drawn_so self.new ≡ assigned place target (Entry reading) (drawn_so self.old))
-                (λ e. e ≡ no_memory)
-        }
+        ensures { MatchResult result
+            (λ _. drawn_so self.new ≡ assigned place target (Entry reading) (drawn_so self.old))
+            (λ e. e ≡ no_memory) }
     {
         let variable = reading.index;
         let guard = Guard::AtLeast { variable, limit: 0 };
@@ -35,11 +33,9 @@ impl Drawing {
 
     // The assignment of a right side to a variable.
     pub(crate) fn assign(&mut self, place: Place, target: usize, right: Side) -> Result<(), Refusal>
-        ensures {
-            MatchResult result
-                (λ _. drawn_so self.new ≡ assigned place target right (drawn_so self.old))
-                (λ e. e ≡ no_memory)
-        }
+        ensures { MatchResult result
+            (λ _. drawn_so self.new ≡ assigned place target right (drawn_so self.old))
+            (λ e. e ≡ no_memory) }
     {
         match right {
             Side::Value(value) => self.onward(Action::Assign { target, value }, place),

@@ -29,8 +29,8 @@ returns-in_err-table c =
     (λ e. turns_at (right ∷ []) (KnowsBehind _ _ Becomes) _ _ Undeclared _ h.1
     (table_decides _ _ c.in_ok-name.ensures false (sym c.if-accept.ensures.is) h.0))
 
-pub shape-requires : goal.shape-requires
-shape-requires c = table_there c.args.self.now.names.tables c.in_ok-name.name.now _ c.in_ok-table.ensures
+pub shape-size-requires : goal.shape-size-requires
+shape-size-requires c = table_there c.args.self.now.names.tables c.in_ok-name.name.now _ c.in_ok-table.ensures
 
 pub returns-in_err-index : goal.returns-in_err-index
 returns-in_err-index c =
@@ -50,8 +50,8 @@ returns-then-accept c =
       reading c.in_ok-name.name.now i.0 c.in_ok-index.place,
       (λ j. Entry (record {
         table = h.1 j;
-        size = (c.shape.ensures.0 ∙ ap (λ (k : ℕ). (slice_index_or (tabs_of n) k no_table).size) h.1) j;
-        range = (c.shape.ensures.1 ∙ ap (λ (k : ℕ). (slice_index_or (tabs_of n) k no_table).range) h.1) j;
+        size = (c.shape-size.ensures.0 ∙ ap (λ (k : ℕ). (slice_index_or (tabs_of n) k no_table).size) h.1) j;
+        range = (c.shape-size.ensures.1 ∙ ap (λ (k : ℕ). (slice_index_or (tabs_of n) k no_table).range) h.1) j;
         index = i.1 j;
         place = c.in_ok-index.place;
       })),
@@ -100,7 +100,7 @@ returns-then-accept-3 c =
     let m = sym c.if-accept.ensures.stays ∙ sym c.if-accept-2.ensures.stays ∙ c.if-accept-3.ensures.passed.1 in
     let z : to_z w64 (of_z w64 c.negative.result) ≡ neg_ℤ (pos c.in_ok-n-2.n) = to_z-of_z w64 c.negative.result (search rules) ∙ c.negative.ensures in (
       shifted c.in_ok-name.name.now _,
-      c.sum.ensures ∙ ap (λ (j : ℕ). Value (Sum j (to_z w64 (of_z w64 c.negative.result)))) h.1,
+      c.sum-then-accept-3.ensures ∙ ap (λ (j : ℕ). Value (Sum j (to_z w64 (of_z w64 c.negative.result)))) h.1,
       (side_shifted _ _ c.in_ok-name.ensures (sym c.if-accept.ensures.is) h.0 (subst (Shifts Minus c.in_ok-n-2.n) (sym z) minus) p _ _ _ m c.in_ok-n-2.ensures, refl),
     )
 
@@ -112,7 +112,7 @@ returns c =
     let b = c.if-accept-2.ensures.stays ∙ a in
     let d = c.if-accept-3.ensures.stays ∙ b in (
       shifted c.in_ok-name.name.now (pos 0),
-      c.sum.ensures ∙ ap (λ (j : ℕ). Value (Sum j (pos 0))) h.1,
+      c.sum-2.ensures ∙ ap (λ (j : ℕ). Value (Sum j (pos 0))) h.1,
       (
         subst (λ (t : Text). Over (right ∷ []) (KnowsBehind (vars_of n) (tabs_of n) Becomes) (is_right (shifted c.in_ok-name.name.now (pos 0))) (left c.args.self.now.sentence) t) (sym d)
             (side_copy _ _ c.in_ok-name.ensures (sym c.if-accept.ensures.is) h.0 (pos 0) refl (ap (first_is Plus) (sym a) ∙ sym c.if-accept-2.ensures.is)

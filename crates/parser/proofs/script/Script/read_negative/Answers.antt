@@ -17,16 +17,16 @@ returns-in_err-name c =
     handed_on _ _ c.from_residual.result _ c.from_residual.ensures.1
     (turns (refuses_negated _ _ (left c.args.self.now.sentence) _ (sym c.if-at_name.ensures)) c.in_err-name.ensures)
 
-pub returns-in_err-i : goal.returns-in_err-i
-returns-in_err-i c =
-    let h = c.in_err-i.ensures in
-    handed_on _ _ c.from_residual-in_err-i.result _ c.from_residual-in_err-i.ensures.1
+pub returns-in_err-variable : goal.returns-in_err-variable
+returns-in_err-variable c =
+    let h = c.in_err-variable.ensures in
+    handed_on _ _ c.from_residual-in_err-variable.result _ c.from_residual-in_err-variable.ensures.1
     (turns_at (behind_minus ∷ []) (KnowsNegates _ _) _ _ Undeclared _ h.1
     (negative_decides _ _ false _ _ _ _ c.in_ok-name.ensures h.0))
 
 pub returns-then-at_name : goal.returns-then-at_name
 returns-then-at_name c =
-    let h = c.in_ok-i.ensures in
+    let h = c.in_ok-variable.ensures in
     (negated c.in_ok-name.name.now, ap (λ (j : _). Value (Negation j)) h.1, (negative_name _ _ _ _ _ _ c.in_ok-name.ensures h.0, refl))
 
 pub returns-in_err-n : goal.returns-in_err-n

@@ -35,7 +35,7 @@ returns-in_err-read_range-2 c =
 pub returns-then-accept-2 : goal.returns-then-accept-2
 returns-then-accept-2 c =
     let m = sym c.if-accept.ensures.stays ∙ c.if-accept-2.ensures.passed.1 in
-    (any Sensed c.in_ok-read_range-2.field-0, c.any_of.ensures, (side_any _ _ sensed m _ _ c.in_ok-read_range-2.ensures, refl))
+    (any Sensed c.in_ok-read_range-2.field-0, c.any_of-then-accept-2.ensures, (side_any _ _ sensed m _ _ c.in_ok-read_range-2.ensures, refl))
 
 pub returns-then-accept-3 : goal.returns-then-accept-3
 returns-then-accept-3 c =
