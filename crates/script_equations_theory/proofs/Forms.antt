@@ -18,7 +18,6 @@ use Rattle.books.specs.Forms.{constant, Among, Threshold, WellTest, WellTerm, We
 use Rattle.books.specs.Forms.Among.{only, first, second}
 use Rattle.books.specs.declared.Term.{Term}
 use Rattle.books.specs.declared.Term.TheVariants.{Constant, Shifted}
-use Rattle.books.specs.declared.Test.{Test}
 use Rattle.books.specs.declared.Terms.{Terms}
 use Rattle.books.specs.declared.Terms.TheVariants.{One, Two}
 use Rattle.books.specs.declared.Alternative.{Alternative}
@@ -35,7 +34,7 @@ use Rattle.language_theory.specs.declared.Guard.TheVariants.{AtMost, AtLeast, Di
 use Rattle.language_theory.specs.declared.Value.{Value}
 use Rattle.language_theory.specs.declared.Value.TheVariants.{AnyOf, TableEntry, Sum, Negation}
 use Rattle.language_theory.specs.declared.Edge.{Edge}
-use Rattle.script_equations_theory.specs.Bounds.{under_test, as_is, copied, upper, lower, given, limited, can_hold, upper_assigned, upper_assumed, upper_of, lower_assigned, lower_assumed, lower_of, variables_of, uppers, lowers, bound_unknown, bound_book}
+use Rattle.script_equations_theory.specs.Bounds.{as_is, copied, upper, lower, given, limited, can_hold, upper_assigned, upper_assumed, upper_of, lower_assigned, lower_assumed, lower_of, variables_of, uppers, lowers, bound_unknown, bound_book}
 use Rattle.script_equations_theory.specs.Grades.{grade_at, grade_copied, source_grade, grade_assigned, grade_of, grade_unknown, grade_book}
 use Rattle.script_equations_theory.proofs.Lists.{by_eq, in_either, contains_none, nth_contains, all_incoming}
 use Rattle.script_equations_theory.proofs.Places.{none_of, bound_count, grade_count, upper_below, lower_below, grade_below}

@@ -21,7 +21,6 @@ pub struct Graph {
     incoming: Vec<Vec<Edge>>,
     ghost few_points: { points ≤ 96 },
     ghost few_variables: { vec_len variables ≤ 8 },
-    ghost few_tables: { vec_len tables ≤ 8 },
     ghost for_each_point: { vec_len incoming ≡ points },
     ghost by_target: { ByTarget edges.items incoming.items },
     ghost drawn: { ∥ OfScript (graph_of variables.items tables.items points edges.items lookups.items) ∥₁ },

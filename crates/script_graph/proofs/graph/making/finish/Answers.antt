@@ -1,9 +1,9 @@
-use Rattle.std.proofs.Common.{◌≡◌, List, All, length, map, vec_items, vec_len, sym, ◌∙◌, subst, arith}
+use Rattle.std.proofs.Common.{◌≡◌, ◌<◌, List, All, length, map, vec_items, vec_len, sym, ◌∙◌, subst, arith}
 use Rattle.std.proofs.lemmas.List.{length-map}
 use Rattle.std.proofs.lemmas.List.Elements.{Contains-get_or}
 use Rattle.language_theory.specs.declared.Edge.{Edge}
 use Rattle.language_theory.proofs.Verdicts.{drawn_well}
-use Rattle.parser.specs.Models.{variable_of, table_of}
+use Rattle.parser.specs.Models.{variable_of}
 use Rattle.script_graph.specs.Grouping.{ByTarget}
 use Rattle.script_graph.proofs.graph.making.finish.Goals as goal
 
@@ -15,17 +15,13 @@ group-requires c =
 pub invariant_of-result : goal.invariant_of-result
 invariant_of-result c =
     let vars = c.args.names.variables in
-    let tabs = c.args.names.tables in
     let w = (drawn_well c.requires.script _ c.requires.read).1 in
     let v : length (map variable_of (vec_items vars)) ≡ vec_len vars = length-map (vec_items vars) variable_of ∙ sym vars.ok.0 in
-    let t : length (map table_of (vec_items tabs)) ≡ vec_len tabs = length-map (vec_items tabs) table_of ∙ sym tabs.ok.0 in
     let points = w.few_points in
     let variables = w.few_variables in
-    let tables = w.few_tables in
     record {
       few_points = points;
       few_variables = omega arith;
-      few_tables = omega arith;
       for_each_point = c.in_ok-incoming.ensures.0;
       by_target = subst (λ (xs : List Edge). ByTarget xs (vec_items c.in_ok-incoming.incoming)) c.deref.ensures.value c.in_ok-incoming.ensures.1;
       drawn = ∣ c.requires ∣₁;
