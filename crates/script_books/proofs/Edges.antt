@@ -1,5 +1,5 @@
 -- How many unknowns and alternatives there are, and the alternatives that the edges to a point give.
-use Rattle.std.proofs.Common.{◌≡◌, ℕ, zero, suc, ◌*◌, ◌/◌, ◌%◌, ◌<◌, ◌≤◌, get_or, not-suc-le-zero, Bool, true, false, cond, List, [], ◌∷◌, map, length, Ok, Err, Result, vec_items, slice_index_or, nat_lt, if◌then◌else◌, sym, refl, ap, ◌∙◌, subst, eqb, lt-ltb, arith, ℤ}
+use Rattle.std.proofs.Common.{◌≡◌, ℕ, zero, suc, ◌*◌, ◌/◌, ◌%◌, ◌<◌, ◌≤◌, get_or, not-suc-le-zero, Bool, true, false, cond, List, [], ◌∷◌, map, length, Ok, Err, Result, vec_items, slice_index_or, sym, refl, ap, ◌∙◌, subst, eqb, arith, ℤ}
 use Rattle.std.proofs.lemmas.Bool.{ne_eqb}
 use Rattle.std.proofs.lemmas.List.{length-map, get_or-map}
 use Rattle.kinds.specs.declared.bound.Bound.{Bound}
@@ -73,6 +73,12 @@ found_made f [] k e h = absurd (okay e _ h)
 found_made f (d ∷ l) zero e h = ap (λ (x : Edge). Ok (f x)) (edge_in e d h)
 found_made f (d ∷ l) (suc k) e h = found_made f l k e h
 
+-- where there is no such edge, there is no alternative either
+found_refused : {A : Type 0} (f : Edge → A) (l : List Edge) (k : ℕ) (e : Refusal) → ◌≡◌ {A = Result Edge Refusal} (Err e) (found (nth l k)) → ◌≡◌ {A = Result A Refusal} (Err e) (found (nth (map f l) k))
+found_refused f [] k e h = let q : e ≡ nowhere NotThere = cc in ap Err q
+found_refused f (d ∷ l) zero e h = cc
+found_refused f (d ∷ l) (suc k) e h = found_refused f l k e h
+
 not_first : {A : Type 0} (t : Bool) (a b : A) → t ≡ false → cond t a b ≡ b
 not_first t a b e = ap (λ (s : Bool). cond s a b) e
 
@@ -95,6 +101,9 @@ module _ (g : graphs.Graph) (p : ℕ) (later : eqb p 0 ≡ false) where
 
   pub grade_found : (v k : ℕ) (e : Edge) → Ok e ≡ found (nth (incoming p g.edges) k) → Ok (grade_of (variables_of g) e.source v e.action) ≡ found (nth (grades_at g p v) k)
   grade_found v k e h = found_made (λ (d : Edge). grade_of (variables_of g) d.source v d.action) (incoming p g.edges) k e h ∙ ap (λ (l : List _). found (nth l k)) (sym (grades_are v))
+
+  pub lower_refused : (v k : ℕ) (e : Refusal) → ◌≡◌ {A = Result Edge Refusal} (Err e) (found (nth (incoming p g.edges) k)) → Err e ≡ found (nth (lowers g p v) k)
+  lower_refused v k e h = found_refused (λ (d : Edge). lower_of (variables_of g) d.source v d.action) (incoming p g.edges) k e h ∙ ap (λ (l : List _). found (nth l k)) (sym (lowers_are v))
 
   uppers_long : (v : ℕ) → length (uppers g p v) ≡ length (incoming p g.edges)
   uppers_long v = ap length (uppers_are v) ∙ length-map (incoming p g.edges) (λ (e : Edge). upper_of (variables_of g) e.source v e.action)
