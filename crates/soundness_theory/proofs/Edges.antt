@@ -26,7 +26,7 @@ use Rattle.language_theory.specs.declared.Guard.TheVariants.{AtMost, AtLeast, Di
 use Rattle.language_theory.specs.declared.Value.{Value}
 use Rattle.language_theory.specs.declared.Value.TheVariants.{AnyOf, TableEntry, Sum, Negation}
 use Rattle.language_theory.specs.declared.Edge.{Edge}
-use Rattle.script_equations_theory.specs.Bounds.{under_test, as_is, copied, upper, lower, reached, given, limited, can_hold, upper_assigned, upper_assumed, upper_of, lower_assigned, lower_assumed, lower_of, variables_of, uppers, lowers, bound_book}
+use Rattle.script_equations_theory.specs.Bounds.{under_test, as_is, upper, lower, reached, given, limited, can_hold, upper_assigned, upper_assumed, upper_of, lower_assigned, lower_assumed, lower_of, variables_of, uppers, lowers, bound_book}
 use Rattle.script_equations_theory.proofs.Lists.{by_eq, in_incoming, in_best}
 use Rattle.script_equations_theory.proofs.Places.{book_long, upper_below, lower_below, upper_at, lower_at}
 use Rattle.soundness_theory.specs.Runs.{of, Gives, guard_holds, Acts}

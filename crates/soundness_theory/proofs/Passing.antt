@@ -6,7 +6,6 @@ use Rattle.kinds.specs.Values.{under, moved, added, reaches, bounds}
 use Rattle.kinds.specs.declared.bound.Bound.{Bound}
 use Rattle.kinds.specs.declared.bound.Bound.TheVariants.{Least, Whole}
 use Rattle.books.specs.Books.{at, holds, terms, worth}
-use Rattle.books.specs.Forms.{shifted}
 use Rattle.books.specs.declared.Term.{Term}
 use Rattle.books.specs.declared.Term.TheVariants.{Constant, Shifted}
 use Rattle.books.specs.declared.Test.{Test}

@@ -5,8 +5,6 @@ use Rattle.kinds.specs.declared.grade.Grade.{Grade}
 use Rattle.kinds.specs.declared.grade.Grade.TheVariants as grade
 use Rattle.books.specs.Books.{at, HoldsUp}
 use Rattle.language_theory.specs.Graphs.{Graph, range}
-use Rattle.language_theory.specs.declared.Source.{Source}
-use Rattle.language_theory.specs.declared.Source.TheVariants as source
 use Rattle.language_theory.specs.declared.Action.{Action}
 use Rattle.language_theory.specs.declared.Action.TheVariants.{Skip, Assign, Assume}
 use Rattle.language_theory.specs.declared.Value.{Value}
