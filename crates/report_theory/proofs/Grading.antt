@@ -1,5 +1,5 @@
 -- A point that is reached has a grade for each variable: along an edge from a point where all variables have grades all get grades, so the bounds of all other points are least.
-use Rattle.std.proofs.Common.{◌≡◌, ℕ, ◌<◌, Bool, true, false, cond, eqb, List, [], Contains, sym, refl, ap, ◌∙◌, subst, ⊎_elim}
+use Rattle.std.proofs.Common.{◌≡◌, ℕ, ◌<◌, Bool, true, false, cond, eqb, List, [], Contains, sym, ap, ◌∙◌, subst, ⊎_elim}
 use Rattle.std.proofs.lemmas.Bool.{cases_Bool, false≢true}
 use Rattle.kinds.specs.Values.{bounds, grades, up_to}
 use Rattle.kinds.specs.Laws.{bounds_laws, grades_laws}

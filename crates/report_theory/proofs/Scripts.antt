@@ -1,5 +1,5 @@
 -- The text of a script's report is that of no other report of a script: rounds and values have at most 64 digits, and so have values that counted rounds come to.
-use Rattle.std.proofs.Common.{◌≡◌, ℕ, zero, suc, ◌+◌, ◌<◌, ◌≤◌, Bool, true, false, cond, List, [], ◌∷◌, ◌++◌, length, map, Some, None, Option, arith}
+use Rattle.std.proofs.Common.{Contains, ◌≡◌, ℕ, zero, suc, ◌+◌, ◌<◌, ◌≤◌, Bool, true, false, cond, List, [], ◌∷◌, ◌++◌, length, map, Some, None, Option, arith}
 use Rattle.std.specs.Prelude.{IfSome, flat_map, filter_map}
 use Rattle.std.specs.List.{range_with_len, cons_option}
 use Rattle.kinds.specs.Values.{bounds, SizedBy}
