@@ -1,11 +1,16 @@
 -- What a function gives of the items up to a place, and how it is filled into a list. The findings are what `found_of` gives of the reads.
-use Rattle.std.proofs.Common.{◌≡◌, ℕ, ◌+◌, ◌<◌, ◌≤◌, true, false, List, [], ◌∷◌, ◌++◌, length, get_or, take, drop, set, Some, None, Option, sym, ap, subst, ◌∙◌, arith, length-append}
+use Rattle.std.proofs.Common.{Contains, vec_items, ◌≡◌, ℕ, ◌+◌, ◌<◌, ◌≤◌, true, false, List, [], ◌∷◌, ◌++◌, length, get_or, take, drop, set, Some, None, Option, sym, ap, subst, ◌∙◌, arith, length-append}
 use Rattle.std.proofs.lemmas.Bool.{false≢true}
 use Rattle.std.proofs.lemmas.List.{append-nil, take_more, take-append-drop}
-use Rattle.std.proofs.lemmas.List.Elements.{filter_map-append}
+use Rattle.std.proofs.lemmas.List.Elements.{filter_map-append, Contains-get_or}
 use Rattle.std.specs.List.{filter_map, cons_option}
 use Rattle.std.specs.Option.{is_some}
 use Rattle.base.specs.Fronts.{Front}
+use Rattle.language_theory.specs.WellFormed.{LookupFits}
+use Rattle.language_theory.specs.declared.Lookup.{Lookup}
+use Rattle.script_graph.specs.Meaning.{meaning}
+use Rattle.script_graph.specs.declared.graph.Graph.{Graph}
+use Rattle.script_books.specs.Fitted.{graph_fits}
 use Rattle.base.proofs.Front.{front_room, front_more}
 
 module _ {A B : Type 0} (f : A → Option B) (l : List A) (i : ℕ) where
@@ -43,3 +48,7 @@ module _ {A B : Type 0} (f : A → Option B) (l : List A) (i : ℕ) (d : A) (h :
     -- there is room for it where there is room for all
     pub never_full : (b : B) → Some b ≡ f (get_or l i d) → length (filter_map f l) ≤ length es → n < length es'
     never_full b e r = (front_room (filter_map f (take i l)) es es' n w).1 (omega (arith, w.count, count_more (Some b) e, front_least f l (i + 1), r))
+
+-- a read of a graph fits, by its place
+pub lookup_fits : (g : Graph) (ls : List Lookup) (i : ℕ) (d : Lookup) → ls ≡ vec_items g.lookups → i < length ls → LookupFits (meaning g) (get_or ls i d)
+lookup_fits g ls i d e h = (graph_fits g).lookups _ (subst (λ (xs : List Lookup). Contains xs (get_or ls i d)) e (Contains-get_or ls i d h))

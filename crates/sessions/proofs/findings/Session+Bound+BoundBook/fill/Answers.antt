@@ -1,8 +1,9 @@
-use Rattle.std.proofs.Common.{◌∙◌, sym, arith}
+use Rattle.std.proofs.Common.{◌∙◌, sym, ap, vec_items, arith}
 use Rattle.books.specs.Entries.{values}
 use Rattle.soundness_theory.specs.Findings.{found_of}
 use Rattle.script_graph.specs.Meaning.{meaning}
-use Rattle.sessions.proofs.Filling.{fill_none, fill_some, never_full}
+use Rattle.script_graph.specs.declared.graph.Graph.{Graph}
+use Rattle.sessions.proofs.Filling.{fill_none, fill_some, never_full, lookup_fits}
 use Rattle.sessions.proofs.findings.Session+Bound+BoundBook.fill.Goals as goal
 use Rattle.sessions.proofs.findings.Session+Bound+BoundBook.fill.Goals.{in-Some+in_ok-push, in_default}
 
@@ -33,3 +34,6 @@ returns-in_err-push c = λ s room.
     let p = c.in_err-push.ensures.pushed in
     let less = never_full f _ c.loop-lookup.lookup-index _ c.loop-lookup-test.true _ _ _ (c.loop-lookup.invariant.front s) c.in-Some.finding (sym c.in-Some.is ∙ c.finding.ensures s) (rw (c.lookups-lookup-items.ensures, c.graph.ensures) room) in
     absurd (omega (arith, less, p.0))
+
+pub finding-requires : goal.finding-requires
+finding-requires c = lookup_fits c.args.self.now.book.graph.now c.lookups-lookup-items.result.now c.loop-lookup.lookup-index _ (c.lookups-lookup-items.ensures ∙ ap (λ (g : Graph). vec_items g.lookups) c.graph.ensures) c.loop-lookup-test.true
