@@ -2,8 +2,10 @@
 //! It solves books of equations, which it reads through their trait, and scripts, by intervals and edges of its own. It shares no evaluation with the solver that it is held against.
 #![tactic(auto)]
 
+mod equations;
 mod extended;
 mod iteration;
 
+pub use equations::{Readable, solve_book};
 pub use extended::Extended;
 pub use iteration::{Rules, iterate};
