@@ -1,4 +1,0 @@
-pub mod Spots
-pub mod Makers
-pub mod Draws
-pub mod Drawing

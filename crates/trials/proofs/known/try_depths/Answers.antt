@@ -1,5 +1,0 @@
-use Rattle.trials.proofs.Checking.{first_check, next_check}
-use Rattle.trials.proofs.known.try_depths.Goals as goal
-
-pub returns : goal.returns
-returns c = next_check _ (next_check _ (first_check _ c.add.ensures) c.add-2.ensures) c.add-3.ensures

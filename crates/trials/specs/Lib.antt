@@ -1,5 +1,0 @@
-pub mod Levels
-pub mod Readings
-pub mod Ascent
-pub mod Counts
-pub mod Shown
