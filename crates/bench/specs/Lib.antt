@@ -1,1 +1,4 @@
+pub mod Shapes
+pub mod Fitting
 pub mod Largest
+pub mod Asked

@@ -12,9 +12,9 @@ use Rattle.books.specs.declared.Alternative.{Alternative}
 use Rattle.books.proofs.Worth.{no_option}
 use Rattle.books.proofs.Asked.{some_same}
 use Rattle.books.proofs.Rows.{rows_long, row_inside, row_past, each_term}
-use Rattle.shapes.specs.Shapes.{ground_of, over, capped, chain, backward, ring, grid, height, entry_to, row, family_equations}
-use Rattle.shapes.specs.declared.forms.Shape.{Shape}
-use Rattle.shapes.specs.declared.forms.Shape.TheVariants.{Chain, Reverse, Ring, Grid}
+use Rattle.bench.specs.Shapes.{ground_of, over, capped, chain, backward, ring, grid, height, entry_to, row, family_equations}
+use Rattle.bench.specs.declared.shaped.Shape.{Shape}
+use Rattle.bench.specs.declared.shaped.Shape.TheVariants.{Chain, Reverse, Ring, Grid}
 
 -- P holds of each item
 abbrev Each : {A : Type 0} → (A → Type 0) → List A → Type 0

@@ -8,8 +8,8 @@ use Rattle.books.specs.declared.Term.TheVariants.{Constant, Shifted}
 use Rattle.books.specs.declared.Test.TheVariants.{Always}
 use Rattle.books.specs.declared.Terms.TheVariants.{Two}
 use Rattle.books.specs.declared.Alternative.{Alternative}
-use Rattle.shapes.specs.declared.forms.Shape.{Shape}
-use Rattle.shapes.specs.declared.forms.Shape.TheVariants.{Chain, Reverse, Ring, Grid}
+use Rattle.bench.specs.declared.shaped.Shape.{Shape}
+use Rattle.bench.specs.declared.shaped.Shape.TheVariants.{Chain, Reverse, Ring, Grid}
 
 -- zero
 abbrev pub ground_of : Alternative Bound ℤ
