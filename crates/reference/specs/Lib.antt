@@ -1,1 +1,3 @@
+pub mod Intervals
 pub mod Readings
+pub mod Results

@@ -1,4 +1,7 @@
 // Extended whole numbers, the one kind of value of the reference solver.
+ghost use Rattle.std.specs.Prelude.{Some};
+ghost use Rattle.reference.specs.Intervals.{extended_text};
+
 use std::fmt;
 
 /// A whole number, or below or above all of them, in this order. Grades are the numbers 1 to 3, and what nothing reaches lies below.
@@ -37,6 +40,8 @@ impl Extended {
 }
 
 impl fmt::Display for Extended {
+    ghost output = { λ x. Some (extended_text x) };
+
     fn fmt<W: fmt::Write>(&self, f: &mut fmt::Formatter<W>) -> fmt::Result {
         match *self {
             Extended::NegInf => f.write_str("-inf"),

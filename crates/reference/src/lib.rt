@@ -4,8 +4,14 @@
 
 mod equations;
 mod extended;
+mod interval;
 mod iteration;
+mod results;
+mod script;
 
 pub use equations::{Readable, solve_book};
 pub use extended::Extended;
+pub use interval::Interval;
 pub use iteration::{Rules, iterate};
+pub use results::{AbstractValue, IndexFinding, Results};
+pub use script::{Analysis, analyze};
