@@ -1,0 +1,5 @@
+pub mod Sessions
+pub mod Comparisons
+pub mod Simulations
+pub mod ReportLines
+pub mod Trials

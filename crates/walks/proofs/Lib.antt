@@ -1,4 +1,0 @@
-pub mod Checking
-pub mod Between
-pub mod Looking
-pub mod Asking
