@@ -129,13 +129,6 @@ impl Refusal {
             place: Some(place),
         }
     }
-
-    /// A refusal of a call that is about no place of a script.
-    pub fn unplaced(reason: Reason) -> Refusal
-        ensures { result ≡ nowhere reason }
-    {
-        Refusal::from(reason)
-    }
 }
 
 /// The line that is printed: the phase, the number, the line and the column, 0 0 where there is no place.

@@ -7,8 +7,8 @@ mod systems;
 
 use base::Refusal;
 use books::{Book, Entry};
-use kinds::{Bound, Kind};
-use solver::{Analysis, Answer, Call, Progress, make_calls};
+use kinds::Kind;
+use solver::{Answer, Call, Progress, make_calls};
 use std::{fmt, io};
 use systems::{CopiedGrade, System};
 
@@ -115,27 +115,7 @@ fn live<K: Kind + fmt::Display, B: Book<K>>(
     Ok(())
 }
 
-// Sets an analysis up in a list of that many entries and holds it over several calls.
-fn hold(rt: &HostRuntime, entries: usize) -> io::Result<()> {
-    println!(rt; "u0 = max(0, u1), u1 = u0, in a list of {entries}")?;
-    let entry = Entry {
-        value: Bound::Greatest,
-        choice: None,
-    };
-    let mut list = vec![in rt.alloc(); entry; entries]?;
-    let mut analysis = match Analysis::set_up(&System::Copying, list.as_mut_slice()) {
-        Ok(analysis) => analysis,
-        Err(refusal) => return println!(rt; "  set-up: {}", Refused(refusal)),
-    };
-    println!(rt; "  round: {}", Reached(analysis.round(&System::Copying)))?;
-    match analysis.run(&System::Copying, 5) {
-        Ok(progress) => println!(rt; "  run of 5: {}", Reached(progress))?,
-        Err(refusal) => println!(rt; "  run of 5: {}", Refused(refusal))?,
-    }
-    println!(rt; "  rounds: {}", analysis.rounds())
-}
-
-// The six systems of bounds, the one of grades, and an analysis that is held.
+// The six systems of bounds, and the one of grades.
 fn main(rt: HostRuntime) -> io::Result<()> {
     live(&rt, "no unknowns", &System::Nothing)?;
     live(&rt, "u0 = max(0, u1), u1 = u0", &System::Copying)?;
@@ -143,7 +123,5 @@ fn main(rt: HostRuntime) -> io::Result<()> {
     live(&rt, "u0 = max(0, u0 + 1)", &System::Growing)?;
     live(&rt, "u0 = u0 + 1", &System::Groundless)?;
     live(&rt, "u0 = max(0, u0 - 1)", &System::Falling)?;
-    live(&rt, "grades: u0 = max(1, u1), u1 = u0", &CopiedGrade)?;
-    hold(&rt, 1)?;
-    hold(&rt, 2)
+    live(&rt, "grades: u0 = max(1, u1), u1 = u0", &CopiedGrade)
 }

@@ -64,7 +64,7 @@ pub fn read_outline(heap: Global, script: &[u8]) -> Result<Outline, Refusal>
     ensures examples { Examples }
 {
     if script.len() > MOST_BYTES {
-        return Err(Refusal::unplaced(Reason::ScriptTooLong));
+        return Err(Reason::ScriptTooLong.into());
     }
     let mut scribe = Scribe {
         script: Script::new(heap, script),

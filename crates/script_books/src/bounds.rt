@@ -51,7 +51,7 @@ fn declared(end: i64, number: usize) -> Result<Choice, Refusal>
     ensures { result ≡ found (nth (constant (Whole end) ∷ []) number) }
 {
     if number > 0 {
-        return Err(Refusal::unplaced(Reason::NotThere));
+        return Err(Reason::NotThere.into());
     }
     Ok(Alternative::constant(Bound::Whole(end)))
 }

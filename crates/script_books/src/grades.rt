@@ -118,7 +118,7 @@ fn declared(number: usize) -> Result<Choice, Refusal>
     ensures { result ≡ found (nth (constant Written ∷ []) number) }
 {
     if number > 0 {
-        return Err(Refusal::unplaced(Reason::NotThere));
+        return Err(Reason::NotThere.into());
     }
     Ok(Alternative::constant(Grade::Written))
 }

@@ -28,7 +28,7 @@ pub(crate) fn spot_of(graph: &Graph, number: usize) -> Result<Spot, Refusal>
 {
     let variables = graph.variables().len();
     if number >= variables * graph.points() {
-        return Err(Refusal::unplaced(Reason::NotThere));
+        return Err(Reason::NotThere.into());
     }
     Ok(Spot {
         point: number / variables,
@@ -43,7 +43,7 @@ pub(crate) fn number_of(graph: &Graph, point: usize, variable: usize) -> Result<
 {
     let variables = graph.variables().len();
     if point >= graph.points() || variable >= variables {
-        return Err(Refusal::unplaced(Reason::NotThere));
+        return Err(Reason::NotThere.into());
     }
     Ok(variables * point + variable)
 }
@@ -65,7 +65,7 @@ pub(crate) fn edge_to(graph: &Graph, point: usize, number: usize) -> Result<Edge
 {
     match edges_to(graph, point).get(number) {
         Some(edge) => Ok(*edge),
-        None => Err(Refusal::unplaced(Reason::NotThere)),
+        None => Err(Reason::NotThere.into()),
     }
 }
 

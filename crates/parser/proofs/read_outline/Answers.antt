@@ -9,7 +9,7 @@ use Rattle.parser.proofs.Verdict.{from_blank, outlined_err, turned_back, unended
 use Rattle.parser.proofs.read_outline.Goals as goal
 
 pub returns-then-script-gt-MOST_BYTES-clause-verdict : goal.returns-then-script-gt-MOST_BYTES-clause-verdict
-returns-then-script-gt-MOST_BYTES-clause-verdict c = subst (RefusedAs c.args.script.now) (sym c.unplaced.ensures) (by_verdict (too_long c.if-script-gt-MOST_BYTES.true))
+returns-then-script-gt-MOST_BYTES-clause-verdict c = subst (RefusedAs c.args.script.now) (sym c.into.ensures) (by_verdict (too_long c.if-script-gt-MOST_BYTES.true))
 
 pub returns-in_err-read_declarations-clause-verdict : goal.returns-in_err-read_declarations-clause-verdict
 returns-in_err-read_declarations-clause-verdict c =
