@@ -1,5 +1,6 @@
 // What stands at the front of some bytes: blanks and comments, names, numbers, symbols.
 ghost use Rattle.std.specs.Prelude.{◌≡◌, ℕ, ◌≤◌, Bool, false, length};
+ghost use Rattle.lexer.specs.Gaps.{in_comment};
 ghost use Rattle.lexer.specs.Words.{letter, digit, inner, skipped, commenting, gap, run, onward, behind, value, reserved, reserved_in, symbols, symbol_in};
 ghost use Rattle.lexer.specs.Reader.{Room, sized, within};
 
@@ -30,30 +31,43 @@ pub(crate) fn is_inner(b: u8) -> bool
     is_letter(b) || is_digit(b) || b == b'_'
 }
 
-// Whether a byte is skipped. A flag tells whether it stands inside a comment: there are only these two states, and the definition has the same flag.
-pub(crate) fn is_skipped(comment: bool, b: u8) -> bool
-    ensures { result ≡ skipped comment b }
-{
-    comment || matches!(b, b' ' | b'\t' | b'\r' | b'\n' | b'#')
+// What a byte that may be skipped stands in.
+#[derive(Clone, Copy, PartialEq, Eq, Debug)]
+pub(crate) enum Gap {
+    Blanks,
+    Comment,
 }
 
-// Whether the byte after it stands inside a comment.
-pub(crate) fn is_commenting(comment: bool, b: u8) -> bool
-    ensures { result ≡ commenting comment b }
-{
-    if comment { b != b'\n' } else { b == b'#' }
+impl Gap {
+    // Whether a byte is skipped here.
+    fn skips(self, b: u8) -> bool
+        ensures { result ≡ skipped (in_comment self) b }
+    {
+        self == Gap::Comment || matches!(b, b' ' | b'\t' | b'\r' | b'\n' | b'#')
+    }
+
+    // What the byte after a skipped one stands in.
+    fn after(self, b: u8) -> Gap
+        ensures { in_comment result ≡ commenting (in_comment self) b }
+    {
+        match (self, b) {
+            (Gap::Comment, b'\n') => Gap::Blanks,
+            (Gap::Comment, _) | (Gap::Blanks, b'#') => Gap::Comment,
+            (Gap::Blanks, _) => Gap::Blanks,
+        }
+    }
 }
 
 // How many bytes of blanks and comments stand at the front.
 pub(crate) fn gap_length(bytes: &[u8]) -> usize
     ensures { (result ≡ length (gap false bytes.now)) × (result ≤ length bytes.now) }
 {
-    let mut comment = false;
+    let mut gap = Gap::Blanks;
     for (n, b) in bytes.iter().enumerate() {
-        if !is_skipped(comment, *b) {
+        if !gap.skips(*b) {
             return n;
         }
-        comment = is_commenting(comment, *b);
+        gap = gap.after(*b);
     }
     bytes.len()
 }
