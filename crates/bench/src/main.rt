@@ -7,7 +7,7 @@ mod shaped;
 mod solving;
 
 use anyhow::anyhow;
-use asking::{Asked, ask_all};
+use asking::ask_all;
 use books::Book;
 use kinds::{Bound, Grade, Kind};
 use script_books::{BoundBook, GradeBook};
@@ -49,13 +49,12 @@ fn ask_book<K: Kind, B: Book<K>>(
     for _ in 1..times {
         ask_all(book);
     }
-    let Asked {
-        alternatives,
-        terms,
-    } = ask_all(book);
+    let asked = ask_all(book);
     println!(rt;
-        "{name}: {} unknowns, {alternatives} alternatives, {terms} terms",
-        book.count()
+        "{name}: {} unknowns, {} alternatives, {} terms",
+        book.count(),
+        asked.alternatives,
+        asked.terms
     )?;
     Ok(())
 }
@@ -78,7 +77,6 @@ fn measure_some(rt: &HostRuntime) -> anyhow::Result<()> {
     ask(rt, 1)
 }
 
-// Measures what the arguments ask for.
 fn main(rt: HostRuntime) -> anyhow::Result<()> {
     let mut words = env::args(&rt)?.skip(1);
     let Some(name) = words.next() else {

@@ -10,12 +10,12 @@ use Rattle.base.specs.declared.Refusal.{Refusal}
 use Rattle.books.specs.Entries.{values}
 use Rattle.books.specs.declared.Entry.{Entry}
 use Rattle.books.specs.declared.Alternative.{Alternative}
-use Rattle.strategy_theory.specs.Theory.{Facts}
-use Rattle.strategy_theory.specs.Lives.{State}
-use Rattle.strategy_theory.specs.Lives.Call.{run}
-use Rattle.strategy_theory.specs.Lives.Answer.{made}
-use Rattle.strategy_theory.specs.Calls.{Shows, Begins, Prolongs}
-use Rattle.strategy_theory.specs.Promises.{Least}
+use Rattle.solver.specs.Theory.{Facts}
+use Rattle.solver.specs.Lives.{State}
+use Rattle.solver.specs.Lives.Call.{run}
+use Rattle.solver.specs.Lives.Answer.{made}
+use Rattle.solver.specs.Calls.{Shows, Begins, Prolongs}
+use Rattle.solver.specs.Promises.{Least}
 use Rattle.reference.specs.declared.extended.Extended.{Extended}
 use Rattle.reference.specs.declared.extended.Extended.TheVariants.{NegInf}
 

@@ -2,7 +2,7 @@
 use Rattle.std.specs.Prelude.{◌≡◌, List, map}
 use Rattle.kinds.specs.Kinds.{Ops}
 use Rattle.books.specs.declared.Alternative.{Alternative}
-use Rattle.strategy_theory.specs.Promises.{Least}
+use Rattle.solver.specs.Promises.{Least}
 use Rattle.reference.specs.declared.extended.Extended.{Extended}
 
 -- the numbers are the least solution of the book m, read as extended numbers

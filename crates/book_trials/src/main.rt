@@ -24,7 +24,6 @@ fn try_kind<K: Drawn>(rt: &HostRuntime) -> anyhow::Result<()> {
     }
 }
 
-// Tries both kinds.
 fn main(rt: HostRuntime) -> anyhow::Result<()> {
     try_kind::<Bound>(&rt)?;
     try_kind::<Grade>(&rt)

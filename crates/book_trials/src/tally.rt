@@ -24,7 +24,6 @@ pub struct Tally {
 }
 
 impl Tally {
-    // No books yet.
     fn new(names: Names) -> Tally
         ensures { (result.books ≡ 0) × (result.first_wrong ≡ None) }
     {
@@ -38,7 +37,6 @@ impl Tally {
         }
     }
 
-    // Counts a value.
     fn add_value<K: Drawn>(&mut self, value: Extended)
         ensures books { self.new.books ≡ self.old.books }
         ensures kept { self.new.first_wrong ≡ self.old.first_wrong }

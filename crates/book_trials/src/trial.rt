@@ -104,6 +104,22 @@ fn calls_lead_to<K: Readable, B: Book<K>>(
     )
 }
 
+// Whether set-up refuses a list that is an entry short and leaves it, and leaves what lies behind the unknowns in a longer one.
+fn keeps_lists<K: Readable, B: Book<K>>(book: &B, list: &mut [Entry<K>]) -> Result<bool, Refusal> {
+    for entry in &mut *list {
+        entry.choice = Some(99);
+    }
+    let is_mark = |entry: &Entry<K>| entry.choice == Some(99);
+    let short = book.count().saturating_sub(1);
+    let refused = match list.get_mut(0..short) {
+        Some(front) if short < book.count() => Analysis::set_up(book, front).is_err(),
+        _ => true,
+    };
+    let kept = list.iter().all(is_mark);
+    Analysis::set_up(book, list)?;
+    Ok(refused && kept && list.iter().skip(book.count()).all(is_mark))
+}
+
 /// Solves a book by the reference and by analyses. No number of its least solution may lie above the cap.
 pub fn try_book<K: Readable, B: Book<K>>(
     alloc: Global,
@@ -123,7 +139,9 @@ pub fn try_book<K: Readable, B: Book<K>>(
         choice: None,
     };
     let mut list = vec![in alloc; entry; book.count()]?;
+    let mut longer = vec![in alloc; entry; book.count().saturating_add(2)]?;
     let agrees = settles_at(book, list.as_mut_slice(), found.as_slice())?
-        && calls_lead_to(alloc, book, list.as_mut_slice(), found.as_slice())?;
+        && calls_lead_to(alloc, book, list.as_mut_slice(), found.as_slice())?
+        && keeps_lists(book, longer.as_mut_slice())?;
     Ok(Trial { found, agrees })
 }

@@ -1,8 +1,6 @@
 // What a graph has besides the listing, a line each with a line break before it.
-ghost use Rattle.std.specs.Prelude.{◌≡◌};
-ghost use Rattle.listing.specs.Names.{named, variable_names, table_names};
-
-use language_theory::{Edge, Lookup};
+use base::Place;
+use language_theory::Edge;
 use listing::parts::{Name, Span, name_at};
 use parser::{Table, Variable};
 use script_graph::graph::Graph;
@@ -68,30 +66,13 @@ impl fmt::Display for Tables<'_> {
     }
 }
 
-impl<'a> TableReads<'a> {
-    // The name of the table that is read.
-    fn table(&self, lookup: &Lookup) -> Name<'a>
-        ensures { result.0.now ≡ named (table_names self.now.0.now.tables.items) lookup.now.table }
-    {
-        name_at(self.0.tables(), lookup.table)
-    }
-
-    // The name of the variable that is the index.
-    fn index(&self, lookup: &Lookup) -> Name<'a>
-        ensures { result.0.now ≡ named (variable_names self.now.0.now.variables.items) lookup.now.index }
-    {
-        name_at(self.0.variables(), lookup.index)
-    }
-}
-
 impl fmt::Display for TableReads<'_> {
     fn fmt<W: fmt::Write>(&self, f: &mut fmt::Formatter<W>) -> fmt::Result {
         for lookup in self.0.lookups() {
-            let table = self.table(lookup);
-            let index = self.index(lookup);
+            let table = name_at(self.0.tables(), lookup.table);
+            let index = name_at(self.0.variables(), lookup.index);
             let point = lookup.point;
-            let line = lookup.place.line;
-            let column = lookup.place.column;
+            let Place { line, column } = lookup.place;
             write!(
                 f,
                 "\nread of {table} by {index} at point {point}, index at {line} {column}"
@@ -116,7 +97,11 @@ impl fmt::Display for Entries<'_> {
         f.write_str("\nedges into")?;
         // By number: points have nothing but numbers.
         for point in 0..self.0.points() {
-            write!(f, " {point}{}", Sources(self.0.incoming(point).unwrap_or(&[])))?;
+            write!(
+                f,
+                " {point}{}",
+                Sources(self.0.incoming(point).unwrap_or(&[]))
+            )?;
         }
         Ok(())
     }

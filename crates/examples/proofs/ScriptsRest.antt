@@ -4,8 +4,8 @@ use Rattle.kinds.specs.Values.{bounds, grades}
 use Rattle.kinds.specs.Laws.{bounds_laws, grades_laws}
 use Rattle.kinds.specs.declared.grade.Grade.TheVariants.{Written}
 use Rattle.language_theory.specs.Examples.{looking_up_graph}
-use Rattle.script_equations_theory.specs.Bounds.{bound_book}
-use Rattle.script_equations_theory.specs.Grades.{grade_book}
+use Rattle.soundness_theory.specs.Bounds.{bound_book}
+use Rattle.soundness_theory.specs.Grades.{grade_book}
 use Rattle.examples.specs.Systems.{ComesTo}
 use Rattle.examples.specs.Play.{comes_to}
 use Rattle.examples.specs.Shown.{graph_of, rest_of}

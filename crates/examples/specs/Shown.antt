@@ -15,8 +15,8 @@ use Rattle.language_theory.specs.declared.Action.TheVariants.{Skip, Assign, Assu
 use Rattle.language_theory.specs.declared.Guard.TheVariants.{AtMost, AtLeast, Difference}
 use Rattle.language_theory.specs.declared.Value.TheVariants.{AnyOf, TableEntry, Sum, Negation}
 use Rattle.language_theory.specs.declared.Lookup.{Lookup}
-use Rattle.script_equations_theory.specs.Bounds.{bound_book}
-use Rattle.script_equations_theory.specs.Grades.{grade_book}
+use Rattle.soundness_theory.specs.Bounds.{bound_book}
+use Rattle.soundness_theory.specs.Grades.{grade_book}
 use Rattle.soundness_theory.specs.Runs.{Acts, Run, OutsideRead}
 use Rattle.soundness_theory.specs.Intervals.{interval}
 use Rattle.soundness_theory.specs.Findings.{findings}

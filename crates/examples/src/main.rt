@@ -64,17 +64,6 @@ impl fmt::Display for Reached {
     }
 }
 
-// A refusal of a call, as it is printed: its phase and its number, since it has no place.
-#[derive(Clone, Copy)]
-struct Refused(Refusal);
-
-impl fmt::Display for Refused {
-    fn fmt<W: fmt::Write>(&self, f: &mut fmt::Formatter<W>) -> fmt::Result {
-        let reason = self.0.reason;
-        write!(f, "refused {} {}", reason.phase(), reason.number())
-    }
-}
-
 // An answer, as it is printed.
 #[derive(Clone, Copy)]
 struct Answered<K>(Result<Answer<K>, Refusal>);
@@ -88,7 +77,7 @@ impl<K: Kind + fmt::Display> fmt::Display for Answered<K> {
             Ok(Answer::Chosen(Some(number))) => write!(f, "alternative {number}"),
             Ok(Answer::Chosen(None)) => write!(f, "none"),
             Ok(Answer::Counted(rounds)) => write!(f, "{rounds}"),
-            Err(refusal) => write!(f, "{}", Refused(refusal)),
+            Err(refusal) => write!(f, "{refusal}"),
         }
     }
 }
@@ -107,7 +96,7 @@ fn live<K: Kind + fmt::Display, B: Book<K>>(
     let mut list = vec![in rt.alloc(); entry; 2]?;
     let mut answers = vec![in rt.alloc(); Ok(Answer::Done); CALLS.len()]?;
     if let Err(refusal) = make_calls(book, list.as_mut_slice(), &CALLS, answers.as_mut_slice()) {
-        return println!(rt; "{}", Refused(refusal));
+        return println!(rt; "{refusal}");
     }
     for (call, answer) in CALLS.iter().zip(&answers) {
         println!(rt; "  {}: {}", Asked(*call), Answered(*answer))?;

@@ -3,7 +3,7 @@ ghost use Rattle.std.specs.Prelude.{◌≡◌};
 ghost use Rattle.kinds.specs.Values.{bounds};
 ghost use Rattle.language_theory.specs.Names.{Verdict};
 ghost use Rattle.language_theory.specs.Names.Outcome.{drawn};
-ghost use Rattle.script_equations_theory.specs.Bounds.{bound_book};
+ghost use Rattle.soundness_theory.specs.Bounds.{bound_book};
 ghost use Rattle.examples.specs.Systems.{ComesTo};
 ghost use Rattle.examples.specs.Shown.{text_of, graph_of, rest_of, ScriptsStand};
 

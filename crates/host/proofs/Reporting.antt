@@ -1,6 +1,6 @@
 -- What is said of the text of a script, by what was said of its graph.
 use Rattle.std.proofs.Common.{◌≡◌, sym, subst, ℕ, ℤ, pos, List, Ok, Err, Result, MatchResult}
-use Rattle.kinds.specs.Limits.{most_rounds}
+use Rattle.report.specs.Limits.{most_rounds}
 use Rattle.base.specs.declared.Refusal.{Refusal}
 use Rattle.script_graph.specs.Meaning.{meaning, ReadsAs}
 use Rattle.script_graph.specs.declared.graph.Graph.{Graph}

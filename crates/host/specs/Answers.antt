@@ -1,6 +1,6 @@
 -- What the entry point for C answers to a text, and what it leaves in the buffer.
 use Rattle.std.specs.Prelude.{◌≡◌, ℕ, ℤ, pos, neg_ℤ, List, Ok, Err}
-use Rattle.kinds.specs.Limits.{most_rounds}
+use Rattle.report.specs.Limits.{most_rounds}
 use Rattle.base.specs.Reasons.{number_of}
 use Rattle.base.specs.declared.Refusal.{Refusal}
 use Rattle.script_graph.specs.Meaning.{meaning, ReadsAs}

@@ -9,6 +9,3 @@ named names n = slice_index_or names n (codes "?")
 
 abbrev pub variable_names : List Variable → List (List ℕ)
 variable_names vs = map (λ v. vec_items v.name) vs
-
-abbrev pub table_names : List Table → List (List ℕ)
-table_names ts = map (λ t. vec_items t.name) ts

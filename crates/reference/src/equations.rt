@@ -4,7 +4,7 @@ ghost use Rattle.reference.specs.Readings.{bound_reading, grade_reading};
 ghost use Rattle.reference.specs.declared.extended.Extended.{Extended};
 
 use crate::extended::Extended;
-use crate::iteration::{Rules, iterate};
+use crate::iteration::{Rules, iterate, raise, value_at};
 use base::Refusal;
 use books::{Alternative, Book, Term, Terms, Test};
 use kinds::{Bound, Grade, Kind, NoWeight};
@@ -98,21 +98,6 @@ impl<K: Readable> Rules for Equations<K, K::Weight> {
     }
 }
 
-// Raises an unknown to a value, unless it is as high already. Says whether it rose.
-fn raise(values: &mut [Extended], unknown: usize, value: Extended) -> bool {
-    let rises = unknown < values.len() && values[unknown] < value;
-    if rises {
-        values[unknown] = value;
-    }
-    rises
-}
-
-// The value of an unknown.
-fn value_at(values: &[Extended], unknown: usize) -> Extended {
-    values.get(unknown).copied().unwrap_or(Extended::NegInf)
-}
-
-// Whether a test holds.
 fn test_holds<K: Readable>(test: Test<K>, values: &[Extended]) -> bool {
     match test {
         Test::Always => true,
@@ -125,7 +110,6 @@ fn test_holds<K: Readable>(test: Test<K>, values: &[Extended]) -> bool {
     }
 }
 
-// The value of a term.
 fn term_value<K: Readable>(term: Term<K, K::Weight>, values: &[Extended]) -> Extended {
     match term {
         Term::Constant(value) => value.extended(),
@@ -133,7 +117,6 @@ fn term_value<K: Readable>(term: Term<K, K::Weight>, values: &[Extended]) -> Ext
     }
 }
 
-// The value of an alternative.
 fn alternative_value<K: Readable>(
     alternative: Alternative<K, K::Weight>,
     values: &[Extended],
@@ -147,7 +130,6 @@ fn alternative_value<K: Readable>(
     }
 }
 
-// Adds the equations of one unknown.
 fn add_equations<K: Readable, B: Book<K>>(
     all: &mut Vec<Equation<K, K::Weight>>,
     book: &B,

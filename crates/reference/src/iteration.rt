@@ -19,3 +19,17 @@ pub fn iterate<R: Rules>(rules: &R, values: &mut [Extended]) -> bool {
     }
     false
 }
+
+/// The value at an index, -inf where there is none.
+pub(crate) fn value_at(values: &[Extended], index: usize) -> Extended {
+    values.get(index).copied().unwrap_or(Extended::NegInf)
+}
+
+/// Raises a value to another one, unless it is as high already. Says whether it rose.
+pub(crate) fn raise(values: &mut [Extended], index: usize, value: Extended) -> bool {
+    let rises = index < values.len() && values[index] < value;
+    if rises {
+        values[index] = value;
+    }
+    rises
+}

@@ -3,7 +3,7 @@ ghost use Rattle.std.specs.Prelude.{◌≡◌};
 
 use crate::extended::Extended;
 use crate::interval::Interval;
-use crate::iteration::{Rules, iterate};
+use crate::iteration::{Rules, iterate, raise, value_at};
 use crate::results::{AbstractValue, IndexFinding, Results};
 use language_theory::{Action, Edge, Guard, Lookup, Range, Source, Value};
 use script_graph::graph::Graph;
@@ -36,19 +36,29 @@ fn range_size(range: Range) -> i64 {
     range.low.saturating_abs().max(range.high.saturating_abs())
 }
 
+fn value_size(value: Value) -> i64 {
+    match value {
+        Value::AnyOf { range, .. } => range_size(range),
+        Value::TableEntry { range, .. } => range_size(range),
+        Value::Sum { constant, .. } => constant.saturating_abs(),
+        Value::Negation { .. } => 0,
+    }
+}
+
+fn guard_size(guard: Guard) -> i64 {
+    match guard {
+        Guard::AtMost { limit, .. } => limit.saturating_abs(),
+        Guard::AtLeast { limit, .. } => limit.saturating_abs(),
+        Guard::Difference { distance, .. } => distance.saturating_abs(),
+    }
+}
+
 /// The size of the number in an action.
 fn action_size(action: Action) -> i64 {
     match action {
         Action::Skip => 0,
-        Action::Assign { value, .. } => match value {
-            Value::AnyOf { range, .. } | Value::TableEntry { range, .. } => range_size(range),
-            Value::Sum { constant, .. } => constant.saturating_abs(),
-            Value::Negation { .. } => 0,
-        },
-        Action::Assume { guard } => match guard {
-            Guard::AtMost { limit, .. } | Guard::AtLeast { limit, .. } => limit.saturating_abs(),
-            Guard::Difference { distance, .. } => distance.saturating_abs(),
-        },
+        Action::Assign { value, .. } => value_size(value),
+        Action::Assume { guard } => guard_size(guard),
     }
 }
 
@@ -61,24 +71,14 @@ fn cap_of(graph: &Graph) -> i64 {
     sizes.fold(0i64, |sum, size| sum.saturating_add(size.saturating_mul(2)))
 }
 
-/// Raises a number to another one. Says whether it rose.
-fn raise(numbers: &mut [Extended], index: usize, number: Extended) -> bool {
-    let rises = index < numbers.len() && numbers[index] < number;
-    if rises {
-        numbers[index] = number;
-    }
-    rises
-}
-
 /// The value of which these are the three numbers, from an index on.
-fn value_at(numbers: &[Extended], index: usize) -> AbstractValue {
-    let number = |index: usize| numbers.get(index).copied().unwrap_or(Extended::NegInf);
+fn triple_at(numbers: &[Extended], index: usize) -> AbstractValue {
     AbstractValue {
         interval: Interval {
-            low: number(index).negated(),
-            high: number(index.saturating_add(1)),
+            low: value_at(numbers, index).negated(),
+            high: value_at(numbers, index.saturating_add(1)),
         },
-        grade: number(index.saturating_add(2)),
+        grade: value_at(numbers, index.saturating_add(2)),
     }
 }
 
@@ -90,7 +90,7 @@ impl EdgeRules<'_> {
     }
 
     fn value(&self, numbers: &[Extended], point: usize, variable: usize) -> AbstractValue {
-        value_at(numbers, self.index(point, variable))
+        triple_at(numbers, self.index(point, variable))
     }
 
     /// The transfer function of an assignment. A value that is made of a variable has its grade.
@@ -216,7 +216,7 @@ impl Rules for EdgeRules<'_> {
 fn values_of(alloc: Global, numbers: &[Extended]) -> Result<Vec<AbstractValue>, AllocError> {
     let mut values = Vec::new(alloc);
     for pair in 0..numbers.len() / 3 {
-        values.push(value_at(numbers, 3 * pair))?;
+        values.push(triple_at(numbers, 3 * pair))?;
     }
     Ok(values)
 }

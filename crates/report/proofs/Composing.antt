@@ -4,8 +4,8 @@ use Rattle.std.specs.Global.{Vec}
 use Rattle.kinds.specs.Limits.{most_rounds}
 use Rattle.base.specs.Reasons.{no_memory}
 use Rattle.base.specs.declared.Refusal.{Refusal}
-use Rattle.language_theory.specs.Names.{Verdict}
-use Rattle.language_theory.specs.Names.Outcome.{drawn}
+use Rattle.sessions.specs.Names.{Verdict}
+use Rattle.sessions.specs.Names.Outcome.{drawn}
 use Rattle.report.specs.Lines.{lines_text, texts}
 use Rattle.report.specs.Reported.{Gathered}
 use Rattle.report.specs.declared.lines.Field.{Field}

@@ -11,10 +11,10 @@ use Rattle.kinds.specs.Values.{bounds, grades}
 use Rattle.kinds.specs.declared.bound.Bound.{Bound}
 use Rattle.kinds.specs.declared.grade.Grade.{Grade}
 use Rattle.books.specs.declared.Alternative.{Alternative}
-use Rattle.strategy_theory.specs.Lives.{State, begun}
-use Rattle.language_theory.specs.Graphs.{Graph}
-use Rattle.script_equations_theory.specs.Bounds.{bound_book}
-use Rattle.script_equations_theory.specs.Grades.{grade_book}
+use Rattle.sessions.specs.Lives.{State, begun}
+use Rattle.sessions.specs.Graphs.{Graph}
+use Rattle.sessions.specs.Bounds.{bound_book}
+use Rattle.sessions.specs.Grades.{grade_book}
 use Rattle.base.specs.Fronts.{Front}
 use Rattle.report_theory.specs.Texts.{Report, lines, line_of, report_text}
 use Rattle.report_theory.specs.Reports.{report_of}

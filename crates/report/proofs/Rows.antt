@@ -12,7 +12,7 @@ use Rattle.parser.specs.declared.Variable.{Variable}
 use Rattle.parser.specs.Models.{variable_of}
 use Rattle.soundness_theory.specs.Intervals.{interval}
 use Rattle.soundness_theory.specs.declared.Finding.{Finding}
-use Rattle.language_theory.specs.Graphs.{no_variable}
+use Rattle.sessions.specs.Graphs.{no_variable}
 use Rattle.script_graph.specs.Meaning.{meaning}
 use Rattle.script_graph.specs.declared.graph.Graph.{Graph}
 use Rattle.report_theory.specs.Texts.{Row, Found, lines, head_fields, row_fields, found_fields, end_fields}

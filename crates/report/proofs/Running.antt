@@ -2,10 +2,10 @@
 use Rattle.std.proofs.Common.{◌≡◌, ℕ, Bool, true, false, List, [], refl, sym, ap, ◌∙◌, subst}
 use Rattle.kinds.specs.Kinds.{Ops}
 use Rattle.books.specs.declared.Alternative.{Alternative}
-use Rattle.strategy_theory.specs.Lives.{State, Life, begun}
-use Rattle.strategy_theory.specs.Lives.Call.{run}
-use Rattle.strategy_theory.specs.Lives.Answer.{made}
-use Rattle.strategy_theory.specs.Lives.Life.{set_up}
+use Rattle.sessions.specs.Lives.{State, Life, begun}
+use Rattle.sessions.specs.Lives.Call.{run}
+use Rattle.sessions.specs.Lives.Answer.{made}
+use Rattle.sessions.specs.Lives.Life.{set_up}
 use Rattle.soundness_theory.specs.Questions.{Question, Told, is_settled}
 use Rattle.soundness_theory.specs.Questions.Told.{turned_back}
 use Rattle.soundness_theory.proofs.Settling.{settled_is}

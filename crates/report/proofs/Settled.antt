@@ -9,8 +9,8 @@ use Rattle.base.specs.Reasons.{nowhere}
 use Rattle.base.specs.declared.Refusal.{Refusal}
 use Rattle.base.specs.declared.Reason.TheVariants.{NotSettled, ListTooShort}
 use Rattle.books.specs.Books.{at}
-use Rattle.script_equations_theory.specs.Bounds.{bound_book, variables_of, is_there}
-use Rattle.script_equations_theory.specs.Grades.{grade_at, grade_book}
+use Rattle.sessions.specs.Bounds.{bound_book, variables_of, is_there}
+use Rattle.sessions.specs.Grades.{grade_at, grade_book}
 use Rattle.soundness_theory.specs.Intervals.{interval}
 use Rattle.soundness_theory.specs.Findings.{findings}
 use Rattle.soundness_theory.specs.Questions.{is_settled}

@@ -6,9 +6,9 @@ use Rattle.kinds.specs.declared.grade.Grade.{Grade}
 use Rattle.base.specs.Reasons.{nowhere, no_memory}
 use Rattle.base.specs.declared.Refusal.{Refusal}
 use Rattle.base.specs.declared.Reason.TheVariants.{BufferTooShort}
-use Rattle.language_theory.specs.Graphs.{Graph}
-use Rattle.script_equations_theory.specs.Bounds.{bound_book}
-use Rattle.script_equations_theory.specs.Grades.{grade_book}
+use Rattle.sessions.specs.Graphs.{Graph}
+use Rattle.sessions.specs.Bounds.{bound_book}
+use Rattle.sessions.specs.Grades.{grade_book}
 use Rattle.report_theory.specs.Texts.{Report, lines, report_text}
 use Rattle.report_theory.specs.Reports.{report_of}
 use Rattle.report.specs.Settles.{SettlesWithin, NoEnd}

@@ -2,9 +2,9 @@
 use Rattle.std.specs.Prelude.{◌≡◌, ℕ, ◌⊎◌, List}
 use Rattle.kinds.specs.Limits.{most_rounds}
 use Rattle.base.specs.declared.Refusal.{Refusal}
-use Rattle.language_theory.specs.Graphs.{Graph}
-use Rattle.language_theory.specs.Names.{Verdict}
-use Rattle.language_theory.specs.Names.Outcome.{drawn}
+use Rattle.sessions.specs.Graphs.{Graph}
+use Rattle.sessions.specs.Names.{Verdict}
+use Rattle.sessions.specs.Names.Outcome.{drawn}
 use Rattle.parser.specs.Outlines.{RefusedAs}
 use Rattle.report_theory.specs.Texts.{Report, report_text}
 use Rattle.report.specs.Reported.{Reports, NoReport}

@@ -3,8 +3,8 @@ ghost use Rattle.std.specs.Prelude.{◌≡◌, ◌++◌, ◌<◌, map, length, M
 ghost use Rattle.kinds.specs.Values.{grades as grades_kind};
 ghost use Rattle.books.specs.Books.{at};
 ghost use Rattle.books.specs.Entries.{values};
-ghost use Rattle.script_equations_theory.specs.Bounds.{variables_of};
-ghost use Rattle.script_equations_theory.specs.Grades.{grade_at};
+ghost use Rattle.sessions.specs.Bounds.{variables_of};
+ghost use Rattle.sessions.specs.Grades.{grade_at};
 ghost use Rattle.base.specs.Reasons.{no_memory};
 ghost use Rattle.soundness_theory.specs.Findings.{findings};
 ghost use Rattle.script_graph.specs.Meaning.{meaning};

@@ -1,7 +1,7 @@
 // The report of a script, and how it is written into a lent buffer.
 ghost use Rattle.std.specs.Prelude.{◌≡◌, ◌<◌, true, None, length, MatchResult};
 ghost use Rattle.books.specs.Entries.{values};
-ghost use Rattle.strategy_theory.specs.Lives.{begun};
+ghost use Rattle.sessions.specs.Lives.{begun};
 ghost use Rattle.solver.specs.Analyses.{state_of};
 ghost use Rattle.base.specs.Reasons.{nowhere, no_memory};
 ghost use Rattle.base.specs.declared.Reason.TheVariants.{BufferTooShort};

@@ -15,7 +15,6 @@ use Rattle.strategy_theory.proofs.Chains.{rounds_stage}
 use Rattle.language_theory.specs.Graphs.{Graph}
 use Rattle.script_equations_theory.specs.Bounds.{upper, lower, variables_of, bound_book}
 use Rattle.soundness_theory.specs.Intervals.{with_lower, ends, interval}
-use Rattle.soundness_theory.proofs.Sizes.{sized_prop}
 use Rattle.report_theory.specs.Laws.{ComesAfter}
 
 sized_reached : (g : Graph) → Well bounds (bound_book g) → (k : ℕ) (y : List Bound) → ComesAfter bounds (bound_book g) k y → (u : ℕ) → SizedBy (length (bound_book g)) (at bounds y u)

@@ -19,8 +19,8 @@ use Rattle.language_theory.specs.WellFormed.{EdgeFits}
 use Rattle.script_equations_theory.specs.Bounds.{variables_of, upper_of, lower_of, uppers, lowers, bound_unknown, bound_book}
 use Rattle.script_equations_theory.specs.Grades.{grade_of, grades_at, grade_unknown, grade_book}
 use Rattle.script_equations_theory.proofs.Lists.{filter_contains}
-use Rattle.parser.specs.declared.Variable.{Variable}
-use Rattle.parser.specs.Models.{variable_of}
+use Rattle.script_graph.specs.Variable.{Variable}
+use Rattle.script_graph.specs.Models.{variable_of}
 use Rattle.script_graph.specs.Meaning.{meaning}
 use Rattle.script_graph.specs.declared.graph.Graph.{Graph}
 use Rattle.script_books.specs.Fitted.{graph_fits}

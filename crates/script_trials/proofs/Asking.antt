@@ -8,17 +8,18 @@ use Rattle.kinds.specs.declared.grade.Grade.{Grade}
 use Rattle.base.specs.declared.Refusal.{Refusal}
 use Rattle.books.specs.Books.{at}
 use Rattle.books.specs.declared.Alternative.{Alternative}
-use Rattle.strategy_theory.specs.Lives.{State, begun}
-use Rattle.report_theory.specs.Laws.{SettlesAfter}
+use Rattle.sessions.specs.Lives.{State, begun}
+use Rattle.report.specs.Laws.{SettlesAfter}
 use Rattle.language_theory.specs.Graphs.{Graph}
-use Rattle.script_equations_theory.specs.Bounds.{bound_book, variables_of, is_there}
-use Rattle.script_equations_theory.specs.Grades.{grade_at, grade_book}
+use Rattle.sessions.specs.Bounds.{bound_book, variables_of, is_there}
+use Rattle.sessions.specs.Grades.{grade_at, grade_book}
 use Rattle.soundness_theory.specs.Intervals.{interval}
 use Rattle.soundness_theory.specs.Questions.{is_settled}
 use Rattle.reference.specs.declared.extended.Extended.{Extended}
 use Rattle.reference.specs.declared.interval.Interval.{Interval}
 use Rattle.reference.specs.declared.results.AbstractValue.{AbstractValue}
-use Rattle.script_trials.specs.Sessions.{interval_of, extended_of_grade, value_numbered}
+use Rattle.reference.specs.Readings.{grade_reading}
+use Rattle.script_trials.specs.Sessions.{interval_of, value_numbered}
 use Rattle.sessions.specs.Answers.{asked_interval, asked_grade}
 use Rattle.sessions.proofs.Asked.{if_asked}
 
@@ -39,10 +40,10 @@ settles_on {G} o book k t x s h h' g e f b p =
 pub value_told : (g : Graph) (y : List Bound) (h : Graph) (z : List Grade) (w v n : ℕ) → v ≡ w →
     (i : Option (Bound × Bound)) → ◌≡◌ {A = Result (Option (Bound × Bound)) Refusal} (Ok i) (asked_interval g y (n / v) (n % v)) →
     (r : Grade) → ◌≡◌ {A = Result Grade Refusal} (Ok r) (asked_grade h z (n / v) (n % v)) →
-    (a : Interval) → a ≡ interval_of i → (b : Extended) → b ≡ extended_of_grade r → record { interval = a; grade = b } ≡ value_numbered g y h z w n
+    (a : Interval) → a ≡ interval_of i → (b : Extended) → b ≡ grade_reading r → record { interval = a; grade = b } ≡ value_numbered g y h z w n
 value_told g y h z w v n same i p r q a e b f =
     let x : AbstractValue = value_numbered g y h z v n in
     let interval : a ≡ x.interval = e ∙ ap interval_of (interval_told g y (n / v) (n % v) i p) in
-    let grade : b ≡ x.grade = f ∙ ap extended_of_grade (grade_told h z (n / v) (n % v) r q) in
+    let grade : b ≡ x.grade = f ∙ ap grade_reading (grade_told h z (n / v) (n % v) r q) in
     let there : ◌≡◌ {A = AbstractValue} (record { interval = a; grade = b }) x = λ k. record { interval = interval k; grade = grade k } in
     there ∙ ap (λ (m : ℕ). value_numbered g y h z m n) same

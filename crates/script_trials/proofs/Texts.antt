@@ -3,7 +3,7 @@ use Rattle.std.proofs.Common.{◌≡◌, ℕ, ◌+◌, ◌<◌, List, [], ◌∷
 use Rattle.std.specs.List.{range_with_len, flat_map}
 use Rattle.std.proofs.lemmas.List.{flat_map_more, take_more, map-id}
 use Rattle.std.proofs.lemmas.List.FromFn.{map-range_with_len_more}
-use Rattle.parser.specs.declared.Variable.{Variable}
+use Rattle.listing.specs.Variable.{Variable}
 use Rattle.listing.specs.Names.{named, variable_names}
 use Rattle.script_graph.specs.declared.graph.Graph.{Graph}
 use Rattle.reference.specs.Results.{value_at}

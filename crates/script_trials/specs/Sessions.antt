@@ -1,43 +1,30 @@
 -- What the settled values of a script's equations say, as sessions have to answer it.
-use Rattle.std.specs.Prelude.{◌≡◌, ℕ, ◌*◌, ◌/◌, ◌%◌, List, length, map, pos, Some, None, Option}
+use Rattle.std.specs.Prelude.{◌≡◌, ℕ, ◌*◌, ◌/◌, ◌%◌, List, length, map, Some, None, Option}
 use Rattle.std.specs.List.{range_with_len}
 use Rattle.kinds.specs.Values.{bounds, grades}
 use Rattle.kinds.specs.declared.bound.Bound.{Bound}
-use Rattle.kinds.specs.declared.bound.Bound.TheVariants.{Least, Whole, Greatest}
 use Rattle.kinds.specs.declared.grade.Grade.{Grade}
-use Rattle.kinds.specs.declared.grade.Grade.TheVariants.{Unreached, Written, Sensed, Heard}
 use Rattle.books.specs.Books.{at}
 use Rattle.language_theory.specs.Graphs.{Graph as Script}
 use Rattle.script_graph.specs.Meaning.{meaning}
 use Rattle.script_graph.specs.declared.graph.Graph.{Graph}
-use Rattle.script_equations_theory.specs.Bounds.{variables_of, bound_book}
-use Rattle.script_equations_theory.specs.Grades.{grade_at, grade_book}
+use Rattle.sessions.specs.Bounds.{variables_of, bound_book}
+use Rattle.sessions.specs.Grades.{grade_at, grade_book}
 use Rattle.soundness_theory.specs.Intervals.{interval}
 use Rattle.soundness_theory.specs.Findings.{findings}
 use Rattle.soundness_theory.specs.declared.Finding.{Finding}
-use Rattle.report_theory.specs.Laws.{SettlesAfter}
-use Rattle.reference.specs.declared.extended.Extended.{Extended}
-use Rattle.reference.specs.declared.extended.Extended.TheVariants.{NegInf, Number, PosInf}
+use Rattle.report.specs.Laws.{SettlesAfter}
+use Rattle.reference.specs.declared.extended.Extended.TheVariants.{NegInf, PosInf}
+use Rattle.reference.specs.Readings.{bound_reading, grade_reading}
 use Rattle.reference.specs.declared.interval.Interval.{Interval}
 use Rattle.reference.specs.declared.results.AbstractValue.{AbstractValue}
 use Rattle.reference.specs.declared.results.IndexFinding.{IndexFinding}
 use Rattle.script_trials.specs.declared.session_results.SessionResults.{SessionResults}
 
-abbrev pub extended_of_bound : Bound → Extended
-extended_of_bound Least = NegInf
-extended_of_bound (Whole a) = Number a
-extended_of_bound Greatest = PosInf
-
-abbrev pub extended_of_grade : Grade → Extended
-extended_of_grade Unreached = NegInf
-extended_of_grade Written = Number (pos 1)
-extended_of_grade Sensed = Number (pos 2)
-extended_of_grade Heard = Number (pos 3)
-
 -- the ends of an interval; where there are none it is empty
 abbrev pub interval_of : Option (Bound × Bound) → Interval
 interval_of None = record { low = PosInf; high = NegInf }
-interval_of (Some i) = record { low = extended_of_bound i.0; high = extended_of_bound i.1 }
+interval_of (Some i) = record { low = bound_reading i.0; high = bound_reading i.1 }
 
 abbrev pub index_finding : Finding → IndexFinding
 index_finding f = record { point = f.point; place = f.place; variable = f.variable; interval = interval_of (Some (f.lowest, f.highest)); size = f.size }
@@ -51,7 +38,7 @@ pairs_of g = g.points * width_of g
 
 -- the interval and the grade of the nth pair, of w variables at each point, at the values y of the graph g and z of h
 abbrev pub value_numbered : Script → List Bound → Script → List Grade → ℕ → ℕ → AbstractValue
-value_numbered g y h z w n = record { interval = interval_of (interval g y (n / w) (n % w)); grade = extended_of_grade (at grades z (grade_at (variables_of h) (n / w) (n % w))) }
+value_numbered g y h z w n = record { interval = interval_of (interval g y (n / w) (n % w)); grade = grade_reading (at grades z (grade_at (variables_of h) (n / w) (n % w))) }
 
 -- the rounds, values and findings are those of the settled values of both books
 pub record AnswersOf (g : Graph) (r : SessionResults) : Type 0 where

@@ -2,7 +2,7 @@
 use Rattle.std.specs.Prelude.{◌≡◌, ℕ, ◌+◌, ◌-◌, ◌^◌, ◌≤◌, min, if◌then◌else◌, Bool, not, ◌==◌, ◌&&◌, List, length, count_by, ℤ, pos, int_le, int_lt, option_map, unwrap_or, slice_get}
 use Rattle.std.specs.List.{list_all, list_any, range_with_len}
 use Rattle.language_theory.specs.declared.Lookup.{Lookup}
-use Rattle.parser.specs.declared.Table.{Table}
+use Rattle.listing.specs.Table.{Table}
 use Rattle.script_graph.specs.declared.graph.Graph.{Graph}
 use Rattle.soundness_theory.specs.Runs.{of}
 use Rattle.reference.specs.Intervals.{contains}

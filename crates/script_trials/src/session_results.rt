@@ -2,17 +2,17 @@
 ghost use Rattle.std.specs.Prelude.{◌≡◌, map, true, IfOk};
 ghost use Rattle.std.specs.List.{range_with_len};
 ghost use Rattle.books.specs.Entries.{values};
-ghost use Rattle.strategy_theory.specs.Lives.{begun};
+ghost use Rattle.sessions.specs.Lives.{begun};
 ghost use Rattle.solver.specs.Analyses.{state_of};
 ghost use Rattle.script_graph.specs.Meaning.{meaning};
 ghost use Rattle.soundness_theory.specs.Findings.{findings};
-ghost use Rattle.report_theory.specs.Laws.{SettlesAfter};
-ghost use Rattle.script_trials.specs.Sessions.{extended_of_bound, extended_of_grade, interval_of, index_finding, width_of, pairs_of, value_numbered, AnswersOf};
+ghost use Rattle.report.specs.Laws.{SettlesAfter};
+ghost use Rattle.script_trials.specs.Sessions.{interval_of, index_finding, width_of, pairs_of, value_numbered, AnswersOf};
 
 use base::{Place, Reason, Refusal};
 use books::{Book, Entry};
 use kinds::{Bound, Grade, Kind};
-use reference::{AbstractValue, Extended, IndexFinding, Interval, Results};
+use reference::{AbstractValue, IndexFinding, Interval, Readable, Results};
 use script_books::{BoundBook, GradeBook};
 use script_graph::graph::Graph;
 use sessions::Session;
@@ -36,27 +36,6 @@ const BLANK: Finding = Finding {
     size: 0,
 };
 
-fn extended_of_bound(bound: Bound) -> Extended
-    ensures { result ≡ extended_of_bound bound }
-{
-    match bound {
-        Bound::Least => Extended::NegInf,
-        Bound::Whole(number) => Extended::Number(number),
-        Bound::Greatest => Extended::PosInf,
-    }
-}
-
-fn extended_of_grade(grade: Grade) -> Extended
-    ensures { result ≡ extended_of_grade grade }
-{
-    match grade {
-        Grade::Unreached => Extended::NegInf,
-        Grade::Written => Extended::Number(1),
-        Grade::Sensed => Extended::Number(2),
-        Grade::Heard => Extended::Number(3),
-    }
-}
-
 fn interval_of(ends: Option<(Bound, Bound)>) -> Interval
     ensures { result ≡ interval_of ends }
 {
@@ -64,8 +43,8 @@ fn interval_of(ends: Option<(Bound, Bound)>) -> Interval
         return Interval::EMPTY;
     };
     Interval {
-        low: extended_of_bound(lowest),
-        high: extended_of_bound(highest),
+        low: lowest.extended(),
+        high: highest.extended(),
     }
 }
 
@@ -131,7 +110,7 @@ fn values_of(
         let (point, variable) = (pair / variables, pair % variables);
         values.push(AbstractValue {
             interval: interval_of(bounds.interval(point, variable)?),
-            grade: extended_of_grade(grades.grade(point, variable)?),
+            grade: grades.grade(point, variable)?.extended(),
         })?;
     }
     Ok(values)

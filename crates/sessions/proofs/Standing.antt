@@ -22,7 +22,6 @@ use Rattle.strategy_theory.specs.Calls.{unasked, state}
 use Rattle.strategy_theory.proofs.Keeping.{promised}
 use Rattle.soundness_theory.specs.Questions.{is_settled}
 use Rattle.soundness_theory.proofs.Settling.{settled_is}
-use Rattle.soundness_theory.proofs.Sizes.{sized_prop}
 use Rattle.sessions.specs.Sessions.{Lived}
 
 module _ {V W : Type 0} (o : Ops V W) (l : Laws o) (m : List (List (Alternative V W))) (well : Well o m) (es : List (Entry V)) (n : ℕ) (t : ∥ Lived o m (state es n) ∥₁) where

@@ -2,11 +2,10 @@
 use Rattle.std.proofs.Common.{◌≡◌, ℕ, ◌*◌, ◌≤◌, List, length, Option, ℤ, nat_abs, subst}
 use Rattle.std.proofs.Math.Logic.{∥∥₁_elim}
 use Rattle.std.proofs.Math.Bridge.{le_prop}
-use mathlib.Core.HLevel.{Unit-prop}
 use Rattle.kinds.specs.Kinds.{Made}
 use Rattle.kinds.specs.Values.{most_size, bounds, SizedBy}
 use Rattle.kinds.specs.declared.bound.Bound.{Bound}
-use Rattle.kinds.specs.declared.bound.Bound.TheVariants.{Least, Whole, Greatest}
+use Rattle.kinds.specs.declared.bound.Bound.TheVariants.{Whole}
 use Rattle.kinds.specs.Laws.{bounds_laws}
 use Rattle.kinds.proofs.Sizes.{made_sized}
 use Rattle.books.specs.Books.{at}
@@ -14,12 +13,6 @@ use Rattle.books.specs.Forms.{Well}
 use Rattle.books.specs.declared.Alternative.{Alternative}
 use Rattle.strategy_theory.specs.Lives.{State, Event, Life}
 use Rattle.strategy_theory.proofs.Keeping.{promised}
-
--- there is at most one proof that a bound is of a size
-pub sized_prop : (k : ℕ) (x : Bound) → IsProp (SizedBy k x)
-sized_prop k Least = Unit-prop
-sized_prop k (Whole a) = le_prop
-sized_prop k Greatest = Unit-prop
 
 module _ {Q A : Type 0} (m : List (List (Alternative Bound ℤ))) (well : Well bounds m) (ask : State Bound → Q → A) where
   pub sized : {h : List (Event Q Bound A)} {ss : List (List (Option ℕ))} {s : State Bound} → Life bounds m ask h ss s → (u : ℕ) (a : ℤ) → at bounds s.values u ≡ Whole a → nat_abs a ≤ length m * most_size

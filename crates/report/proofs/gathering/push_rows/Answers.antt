@@ -1,7 +1,7 @@
 use Rattle.std.proofs.Common.{◌∙◌, ◌<◌, length}
 use Rattle.std.proofs.lemmas.List.{length-map}
 use Rattle.books.specs.Entries.{values}
-use Rattle.script_equations_theory.specs.Bounds.{variables_of}
+use Rattle.sessions.specs.Bounds.{variables_of}
 use Rattle.script_graph.specs.Meaning.{meaning}
 use Rattle.report_theory.specs.Reports.{row_of}
 use Rattle.report.proofs.Settled.{interval_is, grade_is}

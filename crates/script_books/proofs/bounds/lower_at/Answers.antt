@@ -4,7 +4,7 @@ use Rattle.std.proofs.lemmas.Bool.{ne_eqb}
 use Rattle.script_graph.specs.Meaning.{meaning}
 use Rattle.language_theory.specs.WellFormed.{ConstantFits}
 use Rattle.language_theory.specs.declared.Range.{Range}
-use Rattle.parser.specs.declared.Variable.{Variable}
+use Rattle.script_graph.specs.Variable.{Variable}
 use Rattle.script_books.specs.Fitted.{graph_fits}
 use Rattle.script_books.proofs.Edges.{range_is, lower_behind, lower_refused}
 use Rattle.script_books.proofs.bounds.lower_at.Goals as goal

@@ -12,7 +12,10 @@ pub returns-then-ne-2 : goal.returns-then-ne-2
 returns-then-ne-2 c = (λ e. absurd (false≢true (sym e)), λ same. absurd (other_if finding_eq.it finding_same _ _ _ _ c.ne-2.result c.ne-2.ensures c.as_slice-3.ensures.value c.as_slice-4.ensures.value c.if-ne-2.true same.findings))
 
 pub returns : goal.returns
-returns c = (λ e. record {
-  values = same_if value_eq.it value_same _ _ _ _ c.ne.result c.ne.ensures c.as_slice.ensures.value c.as_slice-2.ensures.value c.if-ne.false;
-  findings = same_if finding_eq.it finding_same _ _ _ _ c.ne-2.result c.ne-2.ensures c.as_slice-3.ensures.value c.as_slice-4.ensures.value c.if-ne-2.false;
-}, λ same. refl)
+returns c = (
+  λ e. record {
+    values = same_if value_eq.it value_same _ _ _ _ c.ne.result c.ne.ensures c.as_slice.ensures.value c.as_slice-2.ensures.value c.if-ne.false;
+    findings = same_if finding_eq.it finding_same _ _ _ _ c.ne-2.result c.ne-2.ensures c.as_slice-3.ensures.value c.as_slice-4.ensures.value c.if-ne-2.false;
+  },
+  λ same. refl,
+)

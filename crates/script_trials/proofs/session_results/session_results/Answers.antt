@@ -3,8 +3,8 @@ use Rattle.std.specs.List.{range_with_len}
 use Rattle.kinds.specs.Values.{bounds, grades}
 use Rattle.books.specs.Entries.{values}
 use Rattle.solver.specs.Analyses.{state_of}
-use Rattle.script_equations_theory.specs.Bounds.{bound_book}
-use Rattle.script_equations_theory.specs.Grades.{grade_book}
+use Rattle.sessions.specs.Bounds.{bound_book}
+use Rattle.sessions.specs.Grades.{grade_book}
 use Rattle.soundness_theory.specs.Findings.{findings}
 use Rattle.script_graph.specs.Meaning.{meaning}
 use Rattle.script_graph.specs.declared.graph.Graph.{Graph}

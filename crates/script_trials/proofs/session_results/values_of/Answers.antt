@@ -16,8 +16,8 @@ loop-pair-preserved c =
     let z = values c.args.grades.now.analysis.list.now in
     let w = width_of c.args.graph.now in
     let n = c.loop-pair.pair in
-    let told = value_told g y h z w (length c.variables-variables.result.now) n (ap length c.variables-variables.ensures) c.in_ok-interval.field-0 c.in_ok-interval.ensures.answer c.in_ok-grade.field-0 c.in_ok-grade.ensures.answer c.interval_of.result c.interval_of.ensures c.extended_of_grade.result c.extended_of_grade.ensures in
+    let told = value_told g y h z w (length c.variables-variables.result.now) n (ap length c.variables-variables.ensures) c.in_ok-interval.field-0 c.in_ok-interval.ensures.answer c.in_ok-grade.field-0 c.in_ok-grade.ensures.answer c.interval_of.result c.interval_of.ensures c.extended.result c.extended.ensures in
     c.in_ok-push.ensures.items
-    ∙ ap (λ (vs : List AbstractValue). vs ++ record { interval = c.interval_of.result; grade = c.extended_of_grade.result } ∷ []) c.loop-pair.invariant
+    ∙ ap (λ (vs : List AbstractValue). vs ++ record { interval = c.interval_of.result; grade = c.extended.result } ∷ []) c.loop-pair.invariant
     ∙ ap (λ (v : AbstractValue). map (value_numbered g y h z w) (range_with_len 0 n) ++ v ∷ []) told
     ∙ entries_more (value_numbered g y h z w) n
