@@ -1,5 +1,5 @@
 -- What is seen at a state of a run.
-use Rattle.std.specs.Prelude.{◌≡◌, ℕ, ◌+◌, ◌-◌, ◌^◌, ◌≤◌, min, if◌then◌else◌, Bool, not, ◌==◌, ◌&&◌, List, length, count_by, ℤ, pos, int_le, int_lt, option_map, unwrap_or, slice_get}
+use Rattle.std.specs.Prelude.{◌≡◌, ℕ, ◌+◌, ◌-◌, ◌^◌, ◌≤◌, min, if◌then◌else◌, Bool, not, ◌==◌, ◌&&◌, List, length, count_by, pos, int_le, int_lt, option_map, unwrap_or, slice_get}
 use Rattle.std.specs.List.{list_all, list_any, range_with_len}
 use Rattle.language_theory.specs.declared.Lookup.{Lookup}
 use Rattle.listing.specs.Table.{Table}

@@ -1,5 +1,4 @@
-use Rattle.std.proofs.Common.{◌≡◌, ◌++◌, ap, ◌∙◌}
-use Rattle.std.specs.Prelude.{string_bytes}
+use Rattle.std.proofs.Common.{◌++◌, ap, ◌∙◌}
 use Rattle.script_trials.specs.ReportLines.{line_at}
 use Rattle.script_trials.proofs.Texts.{lines_more}
 use Rattle.script_trials.proofs.report_lines.add_point.Goals as goal

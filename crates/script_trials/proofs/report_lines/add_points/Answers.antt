@@ -1,4 +1,4 @@
-use Rattle.std.proofs.Common.{◌≡◌, ◌++◌, ap, ◌∙◌}
+use Rattle.std.proofs.Common.{◌++◌, ap, ◌∙◌}
 use Rattle.script_trials.specs.ReportLines.{point_lines}
 use Rattle.script_trials.proofs.Texts.{lines_more}
 use Rattle.script_trials.proofs.report_lines.add_points.Goals as goal
