@@ -1,5 +1,5 @@
 -- What is seen at a state of a run.
-use Rattle.std.specs.Prelude.{◌≡◌, ℕ, ◌+◌, ◌-◌, ◌^◌, ◌≤◌, min, if◌then◌else◌, Bool, not, ◌==◌, ◌&&◌, List, length, count_by, pos, int_le, int_lt, option_map, unwrap_or, slice_get}
+use Rattle.std.specs.Prelude.{◌≡◌, ℕ, ◌+◌, ◌-◌, ◌^◌, ◌<◌, min, if◌then◌else◌, Bool, not, ◌==◌, ◌&&◌, List, ◌++◌, length, count_by, sum_by, pos, int_le, int_lt, option_map, unwrap_or, slice_get}
 use Rattle.std.specs.List.{list_all, list_any, range_with_len}
 use Rattle.language_theory.specs.declared.Lookup.{Lookup}
 use Rattle.listing.specs.Table.{Table}
@@ -11,6 +11,7 @@ use Rattle.base.specs.declared.Place.{Place}
 use Rattle.reference.specs.declared.results.IndexFinding.{IndexFinding}
 use Rattle.reference.specs.declared.results.Results.{Results}
 use Rattle.script_trials.specs.declared.simulation.Observations.{Observations}
+use Rattle.script_trials.specs.declared.simulation.RunLimits.{RunLimits}
 use Rattle.script_trials.specs.declared.simulation.State.{State}
 
 -- a count with n more, as far as 32 bits go
@@ -43,8 +44,18 @@ pub record Looks (g : Graph) (r : Results) (s : State) (old new : Observations) 
   pub states_outside : new.states_outside ≡ more (if is_inside g r s then 0 else 1) old.states_outside
   pub reads_unfound : new.reads_unfound ≡ more (count_by (is_unfound g r s) g.lookups.items) old.reads_unfound
 
--- nothing that was seen to be wrong is lost
-pub record Keeps (old new : Observations) : Type 0 where
-  pub states : old.states ≤ new.states
-  pub states_outside : old.states_outside ≤ new.states_outside
-  pub reads_unfound : old.reads_unfound ≤ new.reads_unfound
+-- these states were looked at, one behind the other: what is counted is their number, and what is wrong at each of them
+pub record Saw (g : Graph) (r : Results) (ss : List State) (seen : Observations) : Type 0 where
+  pub states : seen.states ≡ min (length ss) (2 ^ 32 - 1)
+  pub states_outside : seen.states_outside ≡ min (count_by (λ s. not (is_inside g r s)) ss) (2 ^ 32 - 1)
+  pub reads_unfound : seen.reads_unfound ≡ min (sum_by (λ s. count_by (is_unfound g r s) g.lookups.items) ss) (2 ^ 32 - 1)
+
+-- behind what was seen further states were looked at, at least one if there is a step
+abbrev pub GoesOn : Graph → Results → ℕ → Observations → Observations → Type 0
+GoesOn g r steps old new = (ss : List State) → Saw g r ss old → (ts : List State) × Saw g r (ss ++ ts) new × (0 < steps → 0 < length ts)
+
+-- all that was seen, of states of which there is at least one if there is a run of a step
+pub record Observed (g : Graph) (r : Results) (limits : RunLimits) (seen : Observations) : Type 0 where
+  pub looked_at : List State
+  pub saw : Saw g r looked_at seen
+  pub some : 0 < limits.runs → 0 < limits.steps → 0 < length looked_at

@@ -1,7 +1,7 @@
 // Random runs of a script, held against what is known of it.
-ghost use Rattle.std.specs.Prelude.{◌≡◌, ◌<◌, count_by, IfOk};
+ghost use Rattle.std.specs.Prelude.{◌≡◌, count_by, IfOk};
 ghost use Rattle.soundness_theory.specs.Runs.{of};
-ghost use Rattle.script_trials.specs.Simulations.{more, has_finding, is_inside, is_outside, is_unfound, Looks, Keeps};
+ghost use Rattle.script_trials.specs.Simulations.{more, has_finding, is_inside, is_outside, is_unfound, Looks, GoesOn, Observed};
 
 use crate::random::Random;
 use base::Place;
@@ -37,13 +37,11 @@ struct State {
     values: [i64; 8],
 }
 
-#[derive(Drop)]
+/// What runs are held against.
+#[derive(Clone, Copy)]
 struct RunChecker<'a> {
     graph: &'a Graph,
     results: &'a Results,
-    random: Random,
-    was_outside: Vec<bool>,
-    seen: Observations,
 }
 
 pub fn raised(count: u32, number: usize) -> u32
@@ -168,59 +166,46 @@ impl RunChecker<'_> {
             .count()
     }
 
-    /// Counts the table reads at a state.
-    fn count_reads(&mut self, state: &State)
-        ensures { self.new.seen ≡ record self.old.seen {
-          reads = self.new.seen.reads;
-          reads_outside = self.new.seen.reads_outside;
+    /// Counts the table reads at a state, and notes which are outside.
+    fn count_reads(&self, state: &State, seen: &mut Observations, outside: &mut [bool])
+        ensures { seen.new ≡ record seen.old {
+          reads = seen.new.reads;
+          reads_outside = seen.new.reads_outside;
         } }
     {
         for (number, lookup) in self.graph.lookups().iter().enumerate() {
             if lookup.point == state.point {
-                self.seen.reads = raised(self.seen.reads, 1);
+                seen.reads = raised(seen.reads, 1);
             }
-            if self.is_outside(state, lookup) && number < self.was_outside.len() {
-                self.seen.reads_outside = raised(self.seen.reads_outside, 1);
-                self.was_outside[number] = true;
+            if self.is_outside(state, lookup) && number < outside.len() {
+                seen.reads_outside = raised(seen.reads_outside, 1);
+                outside[number] = true;
             }
         }
     }
 
     /// Looks at a state of a run.
-    fn look(&mut self, state: &State)
-        ensures looks { Looks self.old.graph.now self.old.results.now state.now self.old.seen self.new.seen }
-        ensures kept { Keeps self.old.seen self.new.seen }
+    fn look(&self, state: &State, seen: &mut Observations, outside: &mut [bool])
+        ensures { Looks self.now.graph.now self.now.results.now state.now seen.old seen.new }
     {
         let unfound = self.unfound_reads(state);
-        let outside = usize::from(!self.is_inside(state));
-        self.count_reads(state);
-        self.seen.states = raised(self.seen.states, 1);
-        self.seen.states_outside = raised(self.seen.states_outside, outside);
-        self.seen.reads_unfound = raised(self.seen.reads_unfound, unfound);
+        let is_wrong = usize::from(!self.is_inside(state));
+        self.count_reads(state, seen, outside);
+        seen.states = raised(seen.states, 1);
+        seen.states_outside = raised(seen.states_outside, is_wrong);
+        seen.reads_unfound = raised(seen.reads_unfound, unfound);
     }
 
-    #[tactic(auto, using(crate::proofs::Keeping::keeps_on))]
-    fn run(&mut self, steps: u32)
-        ensures kept { Keeps self.old.seen self.new.seen }
-        ensures looked { 0 < steps → 0 < self.new.seen.states }
+    fn run(&self, steps: u32, random: &mut Random, seen: &mut Observations, outside: &mut [bool])
+        ensures { GoesOn self.now.graph.now self.now.results.now steps seen.old seen.new }
     {
-        self.seen.runs = raised(self.seen.runs, 1);
-        let mut state = State::start(self.graph, &mut self.random);
+        seen.runs = raised(seen.runs, 1);
+        let mut state = State::start(self.graph, random);
         for _ in 0..steps {
-            self.look(&state);
-            if !state.step(self.graph.edges(), &mut self.random) {
+            self.look(&state, seen, outside);
+            if !state.step(self.graph.edges(), random) {
                 break;
             }
-        }
-    }
-
-    #[tactic(auto, using(crate::proofs::Keeping::keeps_on))]
-    fn run_all(&mut self, limits: RunLimits)
-        ensures kept { Keeps self.old.seen self.new.seen }
-        ensures looked { 0 < limits.runs → 0 < limits.steps → 0 < self.new.seen.states }
-    {
-        for _ in 0..limits.runs {
-            self.run(limits.steps);
         }
     }
 }
@@ -233,20 +218,16 @@ pub fn observe(
     seed: u32,
     limits: RunLimits,
 ) -> Result<Observations, AllocError>
-    ensures { IfOk result (λ seen. 0 < limits.runs → 0 < limits.steps → 0 < seen.states) }
+    ensures { IfOk result (Observed graph.now results.now limits) }
 {
-    let mut checker = RunChecker {
-        graph,
-        results,
-        random: Random::new(seed),
-        was_outside: vec![in alloc; false; graph.lookups().len()]?,
-        seen: Observations::default(),
-    };
-    checker.run_all(limits);
-    let outside = checker.was_outside.iter().filter(|was| **was).count();
-    Ok(Observations {
-        findings: raised(0, results.findings.len()),
-        findings_seen: raised(0, outside),
-        ..checker.seen
-    })
+    let checker = RunChecker { graph, results };
+    let mut random = Random::new(seed);
+    let mut seen = Observations::default();
+    let mut outside = vec![in alloc; false; graph.lookups().len()]?;
+    for _ in 0..limits.runs {
+        checker.run(limits.steps, &mut random, &mut seen, &mut outside);
+    }
+    seen.findings = raised(0, results.findings.len());
+    seen.findings_seen = raised(0, outside.iter().filter(|was| **was).count());
+    Ok(seen)
 }

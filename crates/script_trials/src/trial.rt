@@ -1,8 +1,9 @@
 // A script that is tried.
-ghost use Rattle.std.specs.Prelude.{◌≡◌, ◌<◌, ◌↔◌, string_bytes, IsNone, IfOk};
+ghost use Rattle.std.specs.Prelude.{◌≡◌, ◌↔◌, string_bytes, IsNone, IfOk};
 ghost use Rattle.report.specs.Scripts.{ReportOf};
 ghost use Rattle.script_trials.specs.Sessions.{AnswersOf};
 ghost use Rattle.script_trials.specs.ReportLines.{report_text as expected_text};
+ghost use Rattle.script_trials.specs.Simulations.{Observed};
 ghost use Rattle.script_trials.specs.Trials.{Agrees};
 
 use crate::comparison::{Difference, compare};
@@ -33,7 +34,7 @@ impl Trial {
         ensures sessions { IfOk result (λ t. AnswersOf t.graph t.sessions) }
         ensures report { IfOk result (λ t. ReportOf script.now t.report.items) }
         ensures expected { IfOk result (λ t. string_bytes t.expected ≡ expected_text t.graph t.reference.results t.sessions.rounds) }
-        ensures runs { IfOk result (λ t. 0 < limits.runs → 0 < limits.steps → 0 < t.seen.states) }
+        ensures runs { IfOk result (λ t. Observed t.graph t.sessions.results limits t.seen) }
     {
         let graph = script_graph::read(alloc, script)?;
         let reference = analyze(alloc, &graph)?;
