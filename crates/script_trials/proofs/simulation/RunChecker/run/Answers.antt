@@ -1,4 +1,4 @@
-use Rattle.std.proofs.Common.{◌<◌, List, ◌∷◌, [], ◌++◌, length, arith}
+use Rattle.std.proofs.Common.{◌∷◌, [], ◌++◌, arith}
 use Rattle.std.proofs.lemmas.List.{length_push}
 use Rattle.script_trials.proofs.Keeping.{saw_more}
 use Rattle.script_trials.proofs.simulation.RunChecker.run.Goals as goal
