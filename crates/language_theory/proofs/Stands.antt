@@ -8,7 +8,7 @@ use Rattle.language_theory.proofs.Machine.{steps_begins, complete_script, begins
 use Rattle.language_theory.proofs.Unique.{one_tree}
 use Rattle.language_theory.proofs.Verdicts.{Says, says, some_verdict, one_verdict, passes_all, keeps_passes, drawn_well}
 use Rattle.language_theory.proofs.Drawings.{graph_made}
-use Rattle.language_theory.proofs.WellFormed.{well_formed}
+use Rattle.language_theory.proofs.WellFormed.{in_bounds, well_formed}
 
 accepted_script : (ws : List Word) → accepted (steps (Some at_first) ws) ≡ true → (t : Tree) × Script ws t
 accepted_script ws h = go (steps (Some at_first) ws) refl h
@@ -37,4 +37,4 @@ verdicts_stand = record {
 }
 
 pub graphs_stand : GraphsStand
-graphs_stand = record { made = graph_made; well_formed = well_formed; drawn = drawn_well }
+graphs_stand = record { made = graph_made; in_bounds = in_bounds; well_formed = well_formed; drawn = drawn_well }

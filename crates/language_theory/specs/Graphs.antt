@@ -210,6 +210,30 @@ Within m g = (size g.low ≤ m) × (size g.high ≤ m)
 abbrev pub Among : List ℕ → List (List ℕ) → Type 0
 Among n ms = among n ms ≡ true
 
+-- every name that the statements use is one of the names declared for it
+abbrev pub NamedOperand : List (List ℕ) → Operand → Type 0
+NamedOperand vs (against k) = Among k vs
+NamedOperand vs (limit c) = Unit {0}
+
+abbrev pub NamedCondition : List (List ℕ) → Condition → Type 0
+NamedCondition vs (compares i o v) = Among i vs × NamedOperand vs v
+
+abbrev pub NamedSide : List (List ℕ) → List (List ℕ) → Side → Type 0
+NamedSide vs ts (constant c) = Unit {0}
+NamedSide vs ts (shifted i c) = Among i vs
+NamedSide vs ts (negated i) = Among i vs
+NamedSide vs ts (any s g) = Unit {0}
+NamedSide vs ts (reading t i p) = Among t ts × Among i vs
+
+abbrev pub Named : List (List ℕ) → List (List ℕ) → Statements → Type 0
+Named vs ts done = Unit {0}
+Named vs ts (assign p k e rest) = Among k vs × NamedSide vs ts e × Named vs ts rest
+Named vs ts (choose p c b b₂ rest) = NamedCondition vs c × Named vs ts b × Named vs ts b₂ × Named vs ts rest
+Named vs ts (repeat p c b rest) = NamedCondition vs c × Named vs ts b × Named vs ts rest
+
+abbrev pub Declared : Tree → Type 0
+Declared t = Named (var_names (variables t.declarations)) (table_names (tables t.declarations)) t.statements
+
 -- every constant that is written is at most 2147483647 in size
 abbrev pub SmallOperand : Operand → Type 0
 SmallOperand (against k) = Unit {0}

@@ -2,8 +2,8 @@
 use Rattle.std.specs.Prelude.{◌≡◌, ℕ, ◌≤◌, true, List, [], Some, None}
 use Rattle.lexer.specs.Words.{Word, Text}
 use Rattle.language_theory.specs.Grammar.{Tree, Script, Begins}
-use Rattle.language_theory.specs.Graphs.{Graph, graph, SmallTree}
-use Rattle.language_theory.specs.WellFormed.{Made, WellFormed}
+use Rattle.language_theory.specs.Graphs.{Graph, graph, Declared, SmallTree}
+use Rattle.language_theory.specs.WellFormed.{Made, WellFormed, InBounds}
 use Rattle.language_theory.specs.Names.{Refused, Passes, Outcome, Verdict}
 use Rattle.language_theory.specs.Names.Outcome.{drawn}
 use Rattle.language_theory.specs.Rules.{Keeps, whole}
@@ -28,10 +28,11 @@ pub record VerdictsStand : Type 0 where
   pub keeps : (t : Text) (tree : Tree) → Passes [] t tree → (ws : List Word) × (p : Place) × (t ≡ whole ws p) × Script ws tree × Keeps tree
   pub kept : (ws : List Word) (p : Place) (tree : Tree) → Script ws tree → Keeps tree → Passes [] (whole ws p) tree
 
--- Points are numbered as made; where a tree keeps the rules, its constants are small and it needs no point 96, as in every
--- text that is accepted, its graph is well formed.
+-- Points are numbered as made; where a tree's names are declared and its constants small, its graph is in bounds; where it
+-- also keeps the other rules and needs no point 96, as in every text that is accepted, its graph is well formed.
 pub record GraphsStand : Type 0 where
   pub made : (t : Tree) → Made (graph t).edges (graph t).points
+  pub in_bounds : (t : Tree) → Declared t → SmallTree t → InBounds (graph t)
   pub well_formed : (t : Tree) → Keeps t → SmallTree t → (graph t).points ≤ 96 → WellFormed (graph t)
   -- what is drawn of a text
   pub drawn : (bs : List ℕ) (g : Graph) → Verdict bs (drawn g) → Made g.edges g.points × WellFormed g

@@ -1,6 +1,7 @@
--- Well-formed graphs, as the graph of every accepted text is.
+-- Well-formed graphs, as the graph of every accepted text is; and graphs in bounds, as that of every tree is whose names are
+-- declared and whose constants are small.
 use Rattle.std.specs.Prelude.{◌≡◌, ℕ, suc, ◌<◌, ◌≤◌, true, List, [], ◌∷◌, ◌++◌, length, ℤ, Contains, ◌≢◌, int_le, slice_index_or}
-use Rattle.language_theory.specs.Graphs.{Graph, size, range, no_table, incoming}
+use Rattle.language_theory.specs.Graphs.{Graph, size, Within, range, no_table, incoming}
 use Rattle.language_theory.specs.declared.Range.{Range}
 use Rattle.language_theory.specs.declared.Value.{Value}
 use Rattle.language_theory.specs.declared.Value.TheVariants.{AnyOf, TableEntry, Sum, Negation}
@@ -68,4 +69,28 @@ pub record WellFormed (g : Graph) : Type 0 where
   pub edges : (e : Edge) → Contains g.edges e → EdgeFits g e
   -- at most two edges lead to a point
   pub joins : (p : ℕ) → length (incoming p g.edges) ≤ 2
+  pub lookups : (l : Lookup) → Contains g.lookups l → LookupFits g l
+
+-- what an edge names is in bounds: each variable is below n, each constant at most 2^31 in size
+abbrev pub ValueInBounds : ℕ → Value → Type 0
+ValueInBounds n (AnyOf r s) = Within 2147483648 r
+ValueInBounds n (TableEntry i r) = (i < n) × Within 2147483648 r
+ValueInBounds n (Sum i c) = (i < n) × ConstantFits c
+ValueInBounds n (Negation i) = i < n
+
+abbrev pub GuardInBounds : ℕ → Guard → Type 0
+GuardInBounds n (AtMost i c) = (i < n) × ConstantFits c
+GuardInBounds n (AtLeast i c) = (i < n) × ConstantFits c
+GuardInBounds n (Difference i k d) = (i < n) × (k < n) × ConstantFits d
+
+abbrev pub ActionInBounds : ℕ → Action → Type 0
+ActionInBounds n Skip = Unit {0}
+ActionInBounds n (Assign k x) = (k < n) × ValueInBounds n x
+ActionInBounds n (Assume g) = GuardInBounds n g
+
+-- each variable and table that is named is there, each constant and each end of a range at most 2^31 in size; ranges may fall
+pub record InBounds (g : Graph) : Type 0 where
+  pub ranges : (v : ℕ) → v < length g.variables → Within 2147483648 (range g v)
+  pub tables : (t : ℕ) → t < length g.tables → Within 2147483648 (slice_index_or g.tables t no_table).range
+  pub actions : (e : Edge) → Contains g.edges e → ActionInBounds (length g.variables) e.action
   pub lookups : (l : Lookup) → Contains g.lookups l → LookupFits g l
