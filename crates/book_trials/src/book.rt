@@ -1,5 +1,5 @@
 // Drawn books of equations.
-ghost use Rattle.std.specs.Prelude.{◌≡◌, ◌%◌, ◌<◌, ◌≤◌, MatchResult};
+ghost use Rattle.std.specs.Prelude.{◌≡◌, ◌<◌, ◌≤◌, min, MatchResult};
 ghost use Rattle.base.specs.Reasons.{nowhere};
 ghost use Rattle.base.specs.declared.Reason.TheVariants.{NotThere};
 ghost use Rattle.book_trials.specs.Keys.{key_of};
@@ -11,6 +11,9 @@ use crate::keys::Key;
 use crate::makers::Drawn;
 use base::{Reason, Refusal};
 use books::{Alternative, Book};
+
+// The most unknowns of a drawn book.
+const MOST_UNKNOWNS: usize = 12;
 
 // No constant is larger, and every weight is smaller.
 const MOST_CONSTANT: i64 = 20;
@@ -24,14 +27,13 @@ pub struct DrawnBook {
 }
 
 impl DrawnBook {
-    /// The book of a seed, of 0 to 12 unknowns.
-    pub fn new(seed: u32) -> DrawnBook
-        ensures { (result.seed ≡ seed) × (result.count ≡ seed % 13) }
+    /// The book of a seed, of this many unknowns, and of 12 if it were more.
+    pub fn new(seed: u32, count: usize) -> DrawnBook
+        ensures { (result.seed ≡ seed) × (result.count ≡ min count 12) }
     {
         DrawnBook {
             seed,
-            // `as`: a remainder fits, and no `From` leads from `u32` to `usize`.
-            count: (seed % 13) as usize,
+            count: count.min(MOST_UNKNOWNS),
         }
     }
 

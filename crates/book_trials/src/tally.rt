@@ -71,7 +71,8 @@ pub fn try_books<K: Drawn>(alloc: Global) -> Result<Tally, Refusal>
 {
     let mut tally = Tally::new(K::NAMES);
     for seed in 0..BOOKS {
-        let book = DrawnBook::new(seed);
+        // `as`: a remainder fits, and no `From` leads from `u32` to `usize`.
+        let book = DrawnBook::new(seed, (seed % 13) as usize);
         let trial = try_book::<K, DrawnBook>(alloc, &book, book.cap())?;
         tally.add::<K>(seed, &trial);
     }

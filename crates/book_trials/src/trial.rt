@@ -104,12 +104,27 @@ fn calls_lead_to<K: Readable, B: Book<K>>(
     )
 }
 
+// Whether two entries have the same value and the same choice.
+fn same_entry<K: Readable>(entry: Entry<K>, other: Entry<K>) -> bool
+    ensures { IsTrue result ↔ (K.Readable.reading entry.value ≡ K.Readable.reading other.value)
+        × (entry.choice ≡ other.choice) }
+{
+    entry.value.extended() == other.value.extended() && entry.choice == other.choice
+}
+
 // Whether set-up refuses a list that is an entry short and leaves it, and leaves what lies behind the unknowns in a longer one.
-fn keeps_lists<K: Readable, B: Book<K>>(book: &B, list: &mut [Entry<K>]) -> Result<bool, Refusal> {
-    for entry in &mut *list {
-        entry.choice = Some(99);
-    }
-    let is_mark = |entry: &Entry<K>| entry.choice == Some(99);
+// Every entry of the list has the value, and a choice that no book has.
+fn keeps_lists<K: Readable, B: Book<K>>(
+    book: &B,
+    list: &mut [Entry<K>],
+    value: K,
+) -> Result<bool, Refusal> {
+    let mark = Entry {
+        value,
+        choice: Some(99),
+    };
+    list.fill_with(|| mark);
+    let is_mark = |entry: &Entry<K>| same_entry(*entry, mark);
     let short = book.count().saturating_sub(1);
     let refused = match list.get_mut(0..short) {
         Some(front) if short < book.count() => Analysis::set_up(book, front).is_err(),
@@ -142,6 +157,7 @@ pub fn try_book<K: Readable, B: Book<K>>(
     let mut longer = vec![in alloc; entry; book.count().saturating_add(2)]?;
     let agrees = settles_at(book, list.as_mut_slice(), found.as_slice())?
         && calls_lead_to(alloc, book, list.as_mut_slice(), found.as_slice())?
-        && keeps_lists(book, longer.as_mut_slice())?;
+        && keeps_lists(book, longer.as_mut_slice(), K::least())?
+        && keeps_lists(book, longer.as_mut_slice(), K::greatest())?;
     Ok(Trial { found, agrees })
 }
