@@ -8,6 +8,7 @@ ghost use Rattle.examples.specs.DepthLaws.{depths_laws, depths_rest};
 use base::{Reason, Refusal};
 use books::{Alternative, Book, Term, Terms, Test};
 use kinds::Kind;
+use std::fmt;
 
 /// A whole number, or minus infinity, or plus infinity, from the lowest to the highest.
 /// A type of its own, since `Bound` is a kind already: this one has the same values and other weights.
@@ -103,6 +104,16 @@ impl Kind for Depth {
     // The more a value is lowered, the less the weight.
     fn is_lighter(weight: u64, other: u64) -> bool {
         other <= weight
+    }
+}
+
+impl fmt::Display for Depth {
+    fn fmt<W: fmt::Write>(&self, f: &mut fmt::Formatter<W>) -> fmt::Result {
+        match *self {
+            Depth::Least => f.write_str("-inf"),
+            Depth::Whole(number) => write!(f, "{number}"),
+            Depth::Greatest => f.write_str("+inf"),
+        }
     }
 }
 

@@ -7,8 +7,9 @@ mod systems;
 
 use base::Refusal;
 use books::{Book, Entry};
+use descending::DescendingBook;
 use kinds::Kind;
-use solver::{Answer, Call, Progress, make_calls};
+use solver::{Analysis, Answer, Call, MOST_ROUNDS, Progress, make_calls};
 use std::{fmt, io};
 use systems::{CopiedGrade, System};
 
@@ -82,11 +83,24 @@ impl<K: Kind + fmt::Display> fmt::Display for Answered<K> {
     }
 }
 
-// Makes all the calls of the list on a book and prints them with their answers.
+// Whether one run from set-up makes so many rounds and is settled then.
+fn settles_after<K: Kind, B: Book<K>>(book: &B, list: &mut [Entry<K>], rounds: u16) -> bool {
+    let settled = Progress {
+        rounds,
+        settled: true,
+    };
+    match Analysis::set_up(book, list) {
+        Ok(mut analysis) => analysis.run(book, MOST_ROUNDS) == Ok(settled),
+        Err(_) => false,
+    }
+}
+
+// Makes all the calls of the list on a book and prints them with their answers. In one run the book is to settle after the rounds that are proved of it.
 fn live<K: Kind + fmt::Display, B: Book<K>>(
     rt: &HostRuntime,
     name: &str,
     book: &B,
+    rounds: u16,
 ) -> io::Result<()> {
     println!(rt; "{name}")?;
     let entry = Entry {
@@ -101,16 +115,35 @@ fn live<K: Kind + fmt::Display, B: Book<K>>(
     for (call, answer) in CALLS.iter().zip(&answers) {
         println!(rt; "  {}: {}", Asked(*call), Answered(*answer))?;
     }
+    if !settles_after(book, list.as_mut_slice(), rounds) {
+        return println!(rt; "  WRONG: not settled after {rounds} rounds");
+    }
     Ok(())
 }
 
-// The six systems of bounds, and the one of grades.
+// A system of bounds.
+fn live_system(rt: &HostRuntime, name: &str, system: System) -> io::Result<()> {
+    live(rt, name, &system, system.rounds())
+}
+
+// The six systems of bounds, the one of grades, and the one of depths.
 fn main(rt: HostRuntime) -> io::Result<()> {
-    live(&rt, "no unknowns", &System::Nothing)?;
-    live(&rt, "u0 = max(0, u1), u1 = u0", &System::Copying)?;
-    live(&rt, "u0 = max(0, min(u0 + 1, 9))", &System::Capped)?;
-    live(&rt, "u0 = max(0, u0 + 1)", &System::Growing)?;
-    live(&rt, "u0 = u0 + 1", &System::Groundless)?;
-    live(&rt, "u0 = max(0, u0 - 1)", &System::Falling)?;
-    live(&rt, "grades: u0 = max(1, u1), u1 = u0", &CopiedGrade)
+    live_system(&rt, "no unknowns", System::Nothing)?;
+    live_system(&rt, "u0 = max(0, u1), u1 = u0", System::Copying)?;
+    live_system(&rt, "u0 = max(0, min(u0 + 1, 9))", System::Capped)?;
+    live_system(&rt, "u0 = max(0, u0 + 1)", System::Growing)?;
+    live_system(&rt, "u0 = u0 + 1", System::Groundless)?;
+    live_system(&rt, "u0 = max(0, u0 - 1)", System::Falling)?;
+    live(
+        &rt,
+        "grades: u0 = max(1, u1), u1 = u0",
+        &CopiedGrade,
+        CopiedGrade.rounds(),
+    )?;
+    live(
+        &rt,
+        "depths: u0 = max(-5, u1 lowered once), u1 = max(u0 lowered once, -2 if u0 >= -5)",
+        &DescendingBook,
+        DescendingBook.rounds(),
+    )
 }
