@@ -1,5 +1,5 @@
 //! What solving and asking cost: `bench SHAPE UNKNOWNS` solves a book of a family and a size, and `bench ask TIMES` asks both books of the script
-//! on standard input for all alternatives, so many times. Without arguments it solves a few small books, and asks once.
+//! on standard input for all alternatives, so many times. Without arguments it solves a few small books; `bench both` asks once besides.
 #![tactic(auto)]
 
 mod asking;
@@ -33,9 +33,11 @@ fn measure(rt: &HostRuntime, name: &str, size: usize) -> anyhow::Result<()> {
     let Outcome {
         unknowns,
         rounds,
+        settled,
         largest,
     } = solve(rt.alloc(), shape_named(name)?, size)?;
-    println!(rt; "{name}: {unknowns} unknowns, {rounds} rounds, settled, largest {largest}")?;
+    let state = if settled { "settled" } else { "not settled" };
+    println!(rt; "{name}: {unknowns} unknowns, {rounds} rounds, {state}, largest {largest}")?;
     Ok(())
 }
 
@@ -68,12 +70,18 @@ fn ask(rt: &HostRuntime, times: usize) -> anyhow::Result<()> {
     ask_book::<Grade, GradeBook<'_>>(rt, "grades", &GradeBook::new(&graph), times)
 }
 
-// Solves a few small books, and asks once.
+// Solves a few small books.
 fn measure_some(rt: &HostRuntime) -> anyhow::Result<()> {
     measure(rt, "chain", 1)?;
     for name in ["chain", "reverse", "ring", "grid"] {
         measure(rt, name, 64)?;
     }
+    Ok(())
+}
+
+// Solves a few small books, and asks once.
+fn measure_both(rt: &HostRuntime) -> anyhow::Result<()> {
+    measure_some(rt)?;
     ask(rt, 1)
 }
 
@@ -83,7 +91,10 @@ fn main(rt: HostRuntime) -> anyhow::Result<()> {
         return measure_some(&rt);
     };
     let Some(number) = words.next() else {
-        return Err(anyhow!("bench SHAPE UNKNOWNS, or bench ask TIMES < SCRIPT"));
+        return match name.as_str() {
+            "both" => measure_both(&rt),
+            _ => Err(anyhow!("bench SHAPE UNKNOWNS, or bench ask TIMES < SCRIPT")),
+        };
     };
     let number = number.as_str().parse::<usize>()?;
     match name.as_str() {

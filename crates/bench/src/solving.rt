@@ -1,20 +1,22 @@
 // One book of a family, solved.
-ghost use Rattle.std.specs.Prelude.{◌≡◌, min, IfOk};
+ghost use Rattle.std.specs.Prelude.{◌≡◌, min, MatchResult};
+ghost use Rattle.base.specs.Reasons.{no_memory};
 ghost use Rattle.kinds.specs.Limits.{most_unknowns};
 ghost use Rattle.bench.specs.Largest.{shown_at, Tops};
 
 use crate::shaped::{Shape, Shaped};
-use base::{Reason, Refusal};
+use base::Refusal;
 use books::{Book, Entry};
 use kinds::Bound;
 use solver::{Analysis, MOST_ROUNDS, Progress};
 use std::alloc::Global;
 
-/// What a run came to that settled.
+/// What a run came to. A flag beside the others, not an `Option`: they are told in both cases.
 #[derive(Clone, Copy)]
 pub struct Outcome {
     pub unknowns: usize,
     pub rounds: u16,
+    pub settled: bool,
     pub largest: i64,
 }
 
@@ -41,7 +43,7 @@ fn largest(analysis: &Analysis<Bound>, count: usize) -> i64
 /// Solves the book of a family that has so many unknowns.
 #[tactic(auto, using(books::proofs::Rows::rows_long))]
 pub fn solve(alloc: Global, shape: Shape, size: usize) -> Result<Outcome, Refusal>
-    ensures { IfOk result (λ o. o.unknowns ≡ min size most_unknowns) }
+    ensures { MatchResult result (λ o. o.unknowns ≡ min size most_unknowns) (λ e. e ≡ no_memory) }
 {
     let book = Shaped::new(shape, size);
     let unknowns = book.count();
@@ -52,12 +54,10 @@ pub fn solve(alloc: Global, shape: Shape, size: usize) -> Result<Outcome, Refusa
     let mut list = vec![in alloc; entry; unknowns]?;
     let mut analysis = Analysis::set_up(&book, list.as_mut_slice())?;
     let Progress { rounds, settled } = analysis.run(&book, MOST_ROUNDS)?;
-    if !settled {
-        return Err(Reason::NotSettled.into());
-    }
     Ok(Outcome {
         unknowns,
         rounds,
+        settled,
         largest: largest(&analysis, unknowns),
     })
 }
